@@ -14,11 +14,7 @@ use lib.Ieee.Fits.{up-pos}
 use lib.Ieee.Scale.{finite}
 use Rattle.geometry.specs.Rounded as const
 use Rattle.geometry.specs.Number.{minimum, maximum, magnitude}
-
--- ---- tests
-
-pub clash : {A : Type 0} → true ≡ false → A
-clash h = let z : _≡_ {A = ℕ} 0 1 = cc in absurd (omega arith)
+use Rattle.geometry.proofs.Bools.{clash, and-left}
 
 -- finite is: between the two infinities
 pub between : (x : Float) → lt (inf true) x && lt x (inf false) ≡ finite x
@@ -90,15 +86,11 @@ abs-below (fin true m e) h = refl
 abs-below (fin false m e) h = absurd (omega (arith, ltb-true (m * up e * 1) (0 * down e) h, zero-mul (down e)))
 
 -- a product with what is above 0 is 0 only at 0
-no-product : (m u : ℕ) → 0 < u → m * u ≡ 0 → m ≡ 0
+pub no-product : (m u : ℕ) → 0 < u → m * u ≡ 0 → m ≡ 0
 no-product m u U h = elim (eq-zero-or-pos m) [ inl z ↦ z | inr p ↦ absurd (above (m * u) (mul-pos p U) h) ]
   where
     above : (n : ℕ) → 0 < n → n ≡ 0 → ⊥
     above n p z = omega arith
-
-pub and-left : (a b : Bool) → a && b ≡ true → a ≡ true
-and-left true b h = refl
-and-left false b h = clash (sym h)
 
 -- 2 ^ e is 1 only at e = 0
 one-only : (e : ℤ) → up e * down e ≡ 1 → e ≡ pos 0
