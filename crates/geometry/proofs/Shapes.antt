@@ -13,11 +13,12 @@ use Rattle.geometry.specs.declared.rect.Rect.{Rect}
 use Rattle.geometry.specs.declared.radii.RoundedRectRadii.{RoundedRectRadii}
 use Rattle.geometry.specs.declared.clip.Clip.{Clip}
 use Rattle.geometry.specs.declared.clip.Clip.the-variants as is
+use Rattle.geometry.specs.declared.clip.ClipRect.the-variants as of
 use Rattle.geometry.specs.Rounded as const
 use Rattle.geometry.specs.Rounded.{_⊖_}
 use Rattle.geometry.specs.Number.{minimum, maximum, magnitude}
 use Rattle.geometry.specs.Rectangle.{rect, width, height, ordered, finiteRect}
-use Rattle.geometry.specs.Clips.{radii, all, cap, fitted, square, rounded, shaped, constructed, finiteClip}
+use Rattle.geometry.specs.Clips.{radii, all, cap, fitted, square, rounded, shaped, constructed, clipRect, finiteClip}
 use Rattle.geometry.proofs.Bools.{clash, split, and-left, and-right, Four, four, all-four}
 use Rattle.geometry.proofs.Numbers.{lt-numbers, min-other, min-second, min-first, max-other, max-second, max-first}
 use Rattle.geometry.proofs.Order.{finite-number, lt-le, le-self}
@@ -245,6 +246,10 @@ module _ (r : Rect) (q : RoundedRectRadii) where
 
   pub shaped-flat : flat (shaped r q) ≡ false
   shaped-flat = shaped-cases (λ (e : shaped r q ≡ square r). rw e) (λ (e : shaped r q ≡ rounded r q) (h : all (λ x. eq x const.zero) q ≡ false). rw e h)
+
+  pub shaped-rect : clipRect (shaped r q) ≡ of.Some r
+  unfolding clipRect
+  shaped-rect = shaped-cases (λ (e : shaped r q ≡ square r). rw e) (λ (e : shaped r q ≡ rounded r q) (h : all (λ x. eq x const.zero) q ≡ false). rw e)
 
   shaped-finite : finiteRect r ≡ true → all finite q ≡ true → finiteClip (shaped r q) ≡ true
   unfolding finiteClip
