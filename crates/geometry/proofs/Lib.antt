@@ -1,6 +1,2 @@
-pub mod Bools
-pub mod Numbers
-pub mod Order
-pub mod Signs
-pub mod Shapes
+pub mod Corners
 pub mod Records

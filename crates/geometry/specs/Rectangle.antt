@@ -6,8 +6,8 @@ use lib.Ieee.Scale.{finite}
 use Rattle.geometry.specs.declared.point.Point.{Point}
 use Rattle.geometry.specs.declared.rect.Rect.{Rect}
 use Rattle.geometry.specs.declared.insets.Insets.{Insets}
-use Rattle.geometry.specs.Rounded.{_⊕_, _⊖_, zero}
-use Rattle.geometry.specs.Number.{minimum, maximum}
+use Rattle.numbers.specs.Rounded.{_⊕_, _⊖_, zero}
+use Rattle.numbers.specs.Number.{minimum, maximum}
 
 abbrev pub rect : Float → Float → Float → Float → Rect
 rect x0 y0 x1 y1 = record { x0 = x0; y0 = y0; x1 = x1; y1 = y1 }

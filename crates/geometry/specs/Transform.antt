@@ -5,8 +5,8 @@ use lib.Ieee.Scale.{finite}
 use Rattle.geometry.specs.declared.point.Point.{Point}
 use Rattle.geometry.specs.declared.rect.Rect.{Rect}
 use Rattle.geometry.specs.declared.affine.Affine.{Affine}
-use Rattle.geometry.specs.Rounded.{_⊕_, _⊖_, _⊗_, _⊘_, zero, one}
-use Rattle.geometry.specs.Number.{minimum, maximum}
+use Rattle.numbers.specs.Rounded.{_⊕_, _⊖_, _⊗_, _⊘_, zero, one}
+use Rattle.numbers.specs.Number.{minimum, maximum}
 use Rattle.geometry.specs.Rectangle.{rect}
 
 abbrev pub identity : Affine

@@ -1,7 +1,7 @@
 // Insets, kurbo's insets.rs: how far each edge is moved outwards. The box tree's hit slop is one.
 ghost use mathlib.Core.Path.{_≡_};
 ghost use Rattle.geometry.specs.Rectangle.{insetsEq, noInsets, finiteInsets};
-use crate::number::is_finite;
+use numbers::is_finite;
 
 pub struct Insets {
     pub x0: f64,

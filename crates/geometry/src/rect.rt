@@ -2,10 +2,10 @@
 ghost use mathlib.Core.Path.{_≡_};
 ghost use Rattle.geometry.specs.Rectangle as spec;
 use crate::insets::Insets;
-use crate::number::is_finite;
-use crate::number::max;
-use crate::number::min;
 use crate::point::Point;
+use numbers::is_finite;
+use numbers::max;
+use numbers::min;
 
 pub struct Rect {
     pub x0: f64,

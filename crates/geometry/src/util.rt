@@ -2,9 +2,9 @@
 ghost use mathlib.Core.Path.{_≡_};
 ghost use Rattle.geometry.specs.Transform.{bboxOf};
 use crate::affine::Affine;
-use crate::number::max;
-use crate::number::min;
 use crate::rect::Rect;
+use numbers::max;
+use numbers::min;
 
 // The axis-aligned box of the image of `rect`.
 pub fn transform_rect_bbox(affine: Affine, rect: Rect) -> Rect

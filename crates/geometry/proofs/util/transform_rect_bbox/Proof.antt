@@ -6,8 +6,9 @@ use Rattle.geometry.proofs.util.transform_rect_bbox.Statement.{statemen
 use Rattle.geometry.proofs.util.transform_rect_bbox.Tie as tie
 use Rattle.geometry.proofs.util.transform_rect_bbox.Reads as reads
 use Rattle.geometry.proofs.util.transform_rect_bbox.Lts as lts
-use Rattle.geometry.proofs.number.max.Reads as max-reads
-use Rattle.geometry.proofs.number.min.Reads as min-reads
+use Rattle.numbers.proofs.max.Reads as max-reads
+use Rattle.numbers.proofs.min.Reads as min-reads
+
 -- src/util.rt:17:17
 min-requires : tie.Need-min-requires
 min-requires c κs = search needs

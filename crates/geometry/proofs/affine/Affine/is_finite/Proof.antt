@@ -6,7 +6,7 @@ use Rattle.geometry.proofs.affine.Affine.is_finite.Statement.{statement
 use Rattle.geometry.proofs.affine.Affine.is_finite.Tie as tie
 use Rattle.geometry.proofs.affine.Affine.is_finite.Reads as reads
 use Rattle.geometry.proofs.affine.Affine.is_finite.Lts as lts
-use Rattle.geometry.proofs.number.is_finite.Reads as is-finite-reads
+use Rattle.numbers.proofs.is_finite.Reads as is-finite-reads
 
 -- src/affine.rt:83:9
 is-finite-requires : tie.Need-is-finite-requires

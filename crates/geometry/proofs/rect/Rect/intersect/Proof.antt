@@ -6,8 +6,8 @@ use Rattle.geometry.proofs.rect.Rect.intersect.Statement.{statement}
 use Rattle.geometry.proofs.rect.Rect.intersect.Tie as tie
 use Rattle.geometry.proofs.rect.Rect.intersect.Reads as reads
 use Rattle.geometry.proofs.rect.Rect.intersect.Lts as lts
-use Rattle.geometry.proofs.number.max.Reads as max-reads
-use Rattle.geometry.proofs.number.min.Reads as min-reads
+use Rattle.numbers.proofs.max.Reads as max-reads
+use Rattle.numbers.proofs.min.Reads as min-reads
 
 -- src/rect.rt:51:13
 max-requires : tie.Need-max-requires

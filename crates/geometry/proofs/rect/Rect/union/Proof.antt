@@ -6,8 +6,8 @@ use Rattle.geometry.proofs.rect.Rect.union.Statement.{statement}
 use Rattle.geometry.proofs.rect.Rect.union.Tie as tie
 use Rattle.geometry.proofs.rect.Rect.union.Reads as reads
 use Rattle.geometry.proofs.rect.Rect.union.Lts as lts
-use Rattle.geometry.proofs.number.max.Reads as max-reads
-use Rattle.geometry.proofs.number.min.Reads as min-reads
+use Rattle.numbers.proofs.max.Reads as max-reads
+use Rattle.numbers.proofs.min.Reads as min-reads
 
 -- src/rect.rt:67:17
 min-requires : tie.Need-min-requires

@@ -1,0 +1,124 @@
+-- Clips (document 01, module 2): none, square, or rounded with four radii, in the order top left, top right, bottom right, bottom
+-- left.
+use mathlib.Core.Bool.{Bool, true, false, _&&_, cond}
+use lib.Ieee.{Float, lt, le, eq}
+use lib.Ieee.Scale.{finite}
+use Rattle.geometry.specs.declared.point.Point.{Point}
+use Rattle.geometry.specs.declared.rect.Rect.{Rect}
+use Rattle.clips.specs.declared.radii.RoundedRectRadii.{RoundedRectRadii}
+use Rattle.clips.specs.declared.clip.Clip.{Clip}
+use Rattle.clips.specs.declared.clip.Clip.the-variants as is
+use Rattle.clips.specs.declared.clip.ClipRect.{ClipRect}
+use Rattle.clips.specs.declared.clip.ClipRect.the-variants as of
+use Rattle.numbers.specs.Rounded.{_⊕_, _⊖_, _⊗_, _⊘_, zero, half, two}
+use Rattle.numbers.specs.Number.{minimum, maximum, magnitude}
+use Rattle.geometry.specs.Rectangle.{rect, width, height, ordered, rectEq, finiteRect}
+
+-- ---- radii
+
+abbrev pub radii : Float → Float → Float → Float → RoundedRectRadii
+radii tl tr br bl = record { «top_left» = tl; «top_right» = tr; «bottom_right» = br; «bottom_left» = bl }
+
+abbrev pub noRadii : RoundedRectRadii
+noRadii = radii zero zero zero zero
+
+-- the same done to each radius
+abbrev pub each : (Float → Float) → RoundedRectRadii → RoundedRectRadii
+each f r = radii (f (r .«top_left»)) (f (r .«top_right»)) (f (r .«bottom_right»)) (f (r .«bottom_left»))
+
+-- the same true of all four
+abbrev pub all : (Float → Bool) → RoundedRectRadii → Bool
+all p r = p (r .«top_left») && p (r .«top_right») && (p (r .«bottom_right») && p (r .«bottom_left»))
+
+abbrev pub radiiEq : RoundedRectRadii → RoundedRectRadii → Bool
+radiiEq r s =
+    eq (r .«top_left») (s .«top_left») && eq (r .«top_right») (s .«top_right»)
+    && (eq (r .«bottom_right») (s .«bottom_right») && eq (r .«bottom_left») (s .«bottom_left»))
+
+-- ---- the constructor: corners put in order, radii made non-negative, each capped at half the shorter side; square means all radii 0
+
+-- half the shorter side
+abbrev pub cap : Rect → Float
+cap r = minimum (width r) (height r) ⊘ two
+
+unfoldable pub fitted : Rect → RoundedRectRadii → RoundedRectRadii
+fitted r q = each (λ x. minimum (magnitude x) (cap r)) q
+
+abbrev pub square : Rect → Clip
+square r = is.Square (r .x0) (r .y0) (r .x1) (r .y1)
+
+abbrev pub rounded : Rect → RoundedRectRadii → Clip
+rounded r q = is.Rounded (r .x0) (r .y0) (r .x1) (r .y1) (q .«top_left») (q .«top_right») (q .«bottom_right») (q .«bottom_left»)
+
+unfoldable pub shaped : Rect → RoundedRectRadii → Clip
+shaped r q = cond (all (λ x. eq x zero) q) (square r) (rounded r q)
+
+unfoldable pub constructed : Clip → Clip
+constructed is.None = is.None
+constructed (is.Square x0 y0 x1 y1) = square (ordered (rect x0 y0 x1 y1))
+constructed (is.Rounded x0 y0 x1 y1 tl tr br bl) =
+    shaped (ordered (rect x0 y0 x1 y1)) (fitted (ordered (rect x0 y0 x1 y1)) (radii tl tr br bl))
+
+-- ---- a point inside, measured from the centre
+
+abbrev pub centre : Rect → Point
+centre r = record { x = half ⊗ (r .x0 ⊕ r .x1); y = half ⊗ (r .y0 ⊕ r .y1) }
+
+-- The radius of the offset's quadrant: a zero offset counts as right or bottom; with any NaN it is 0.
+unfoldable pub quadrant : RoundedRectRadii → Float → Float → Float
+quadrant q dx dy =
+    cond (lt dx zero && lt dy zero) (q .«top_left»)
+    (cond (le zero dx && lt dy zero) (q .«top_right»)
+    (cond (le zero dx && le zero dy) (q .«bottom_right»)
+    (cond (lt dx zero && le zero dy) (q .«bottom_left») zero)))
+
+-- how far an offset d reaches past the straight part of a side of this length, whose corners have the radius R; never below 0
+unfoldable pub excess : Float → Float → Float → Float
+excess d side R = maximum (magnitude d ⊖ maximum (side ⊘ two ⊖ R) zero) zero
+
+abbrev pub insideCorner : Float → Float → Float → Bool
+insideCorner px py R = le (px ⊗ px ⊕ py ⊗ py) (R ⊗ R)
+
+abbrev pub insideAt : Rect → Float → Float → Float → Bool
+insideAt r dx dy R = insideCorner (excess dx (width r) R) (excess dy (height r) R) R
+
+unfoldable pub insideRounded : Rect → RoundedRectRadii → Point → Bool
+insideRounded r q p =
+    let dx = p .x ⊖ centre r .x in
+    let dy = p .y ⊖ centre r .y in
+    insideAt r dx dy (quadrant q dx dy)
+
+-- the clip's rectangle, if there is a clip
+unfoldable pub clipRect : Clip → ClipRect
+clipRect is.None = of.None
+clipRect (is.Square x0 y0 x1 y1) = of.Some (rect x0 y0 x1 y1)
+clipRect (is.Rounded x0 y0 x1 y1 tl tr br bl) = of.Some (rect x0 y0 x1 y1)
+
+-- no clip leaves every point inside; a square clip has all radii 0
+unfoldable pub inside : Clip → Point → Bool
+inside is.None p = true
+inside (is.Square x0 y0 x1 y1) p = insideRounded (rect x0 y0 x1 y1) noRadii p
+inside (is.Rounded x0 y0 x1 y1 tl tr br bl) p = insideRounded (rect x0 y0 x1 y1) (radii tl tr br bl) p
+
+-- ---- equality as numbers, with a square clip's radii 0; finiteness of what the case carries, as handed over
+
+-- this clip has this rectangle and these radii
+unfoldable pub hasShape : Rect → RoundedRectRadii → Clip → Bool
+hasShape r q is.None = false
+hasShape r q (is.Square x0 y0 x1 y1) = rectEq r (rect x0 y0 x1 y1) && radiiEq q noRadii
+hasShape r q (is.Rounded x0 y0 x1 y1 tl tr br bl) = rectEq r (rect x0 y0 x1 y1) && radiiEq q (radii tl tr br bl)
+
+abbrev pub isNone : Clip → Bool
+isNone is.None = true
+isNone (is.Square x0 y0 x1 y1) = false
+isNone (is.Rounded x0 y0 x1 y1 tl tr br bl) = false
+
+unfoldable pub clipEq : Clip → Clip → Bool
+clipEq is.None d = isNone d
+clipEq (is.Square x0 y0 x1 y1) d = hasShape (rect x0 y0 x1 y1) noRadii d
+clipEq (is.Rounded x0 y0 x1 y1 tl tr br bl) d = hasShape (rect x0 y0 x1 y1) (radii tl tr br bl) d
+
+unfoldable pub finiteClip : Clip → Bool
+finiteClip is.None = true
+finiteClip (is.Square x0 y0 x1 y1) = finiteRect (rect x0 y0 x1 y1)
+finiteClip (is.Rounded x0 y0 x1 y1 tl tr br bl) = finiteRect (rect x0 y0 x1 y1) && all finite (radii tl tr br bl)

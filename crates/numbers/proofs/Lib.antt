@@ -1,0 +1,5 @@
+pub mod Bools
+pub mod Numbers
+pub mod Order
+pub mod Signs
+pub mod Placed
