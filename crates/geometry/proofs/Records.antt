@@ -1,4 +1,4 @@
--- Equality as numbers of rectangles, insets and transforms: reflexive on finite values, symmetric, and equal values are alike to every
+-- Equality as numbers of rectangles and insets: reflexive on finite values, symmetric, and equal values are alike to every
 -- test by edges. And what the area test tells.
 use mathlib.Core.Path.{_≡_, refl}
 use mathlib.Core.Bool.{Bool, true, false, _&&_}
@@ -11,9 +11,7 @@ use Rattle.numbers.proofs.Signs.{above-tells}
 use Rattle.geometry.specs.declared.point.Point.{Point}
 use Rattle.geometry.specs.declared.rect.Rect.{Rect}
 use Rattle.geometry.specs.declared.insets.Insets.{Insets}
-use Rattle.geometry.specs.declared.affine.Affine.{Affine}
 use Rattle.geometry.specs.Rectangle.{width, height, contains, hasArea, rectEq, insetsEq, noInsets, finiteRect, finiteInsets}
-use Rattle.geometry.specs.Transform.{affineEq, finiteAffine}
 
 -- ---- rectangles
 
@@ -66,19 +64,3 @@ module _ (i j : Insets) where
   pub insets-alike : insetsEq i j ≡ true → noInsets i ≡ noInsets j
   unfolding insetsEq noInsets
   insets-alike h = four-alike (i .x0) (i .y0) (i .x1) (i .y1) (j .x0) (j .y0) (j .x1) (j .y1) h const.zero const.zero const.zero const.zero
-
--- ---- transforms
-
-pub affine-refl : (t : Affine) → finiteAffine t ≡ true → affineEq t t ≡ true
-unfolding affineEq finiteAffine
-affine-refl t f =
-    let A = finite (t .a) && finite (t .b) && (finite (t .c) && finite (t .d)) in
-    let E = finite (t .e) && finite (t .f) in
-    let e = eq-refl (t .e) (finite-number (t .e) (and-left (finite (t .e)) (finite (t .f)) (and-right A E f))) in
-    let g = eq-refl (t .f) (finite-number (t .f) (and-right (finite (t .e)) (finite (t .f)) (and-right A E f))) in
-    rw (four-refl (t .a) (t .b) (t .c) (t .d) (and-left A E f), e, g)
-
-pub affine-sym : (s t : Affine) → affineEq s t ≡ affineEq t s
-unfolding affineEq
-affine-sym s t =
-    rw (eq-sym (s .a) (t .a), eq-sym (s .b) (t .b), eq-sym (s .c) (t .c), eq-sym (s .d) (t .d), eq-sym (s .e) (t .e), eq-sym (s .f) (t .f))

@@ -1,2 +1,1 @@
 pub mod Rectangle
-pub mod Transform

@@ -25,7 +25,7 @@ max-requires-2 c κs = search needs
 -- src/clip.rt:61:1
 returns : tie.Need-returns
 unfolding excess ofBits ofFields odd
-returns c = cc
+returns c = rw (c .max2 .ensures, c .before .abs .ensures, c .before .before .max .ensures)
 
 pub past-spec : {M : Type 1} → statement M
 past-spec = tie.close (tie.spec max-requires abs-requires max-requires-2 returns)

@@ -35,7 +35,7 @@ past-requires-2 c κs = search needs
 -- src/clip.rt:69:1
 returns : tie.Need-returns
 unfolding insideRounded ofBits ofFields odd
-returns c = cc
+returns c = rw (c .past2 .ensures, c .before .height .ensures, c .before .before .past .ensures, c .before .before .before .width .ensures, c .before .before .before .before .quadrant .ensures)
 
 pub winding-spec : {M : Type 1} → statement M
 winding-spec =

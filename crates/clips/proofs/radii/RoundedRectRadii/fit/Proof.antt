@@ -59,7 +59,7 @@ min-requires-5 c κs = search needs
 -- src/radii.rt:33:5
 returns : tie.Need-returns
 unfolding fitted ofBits ofFields odd
-returns c = cc
+returns c = rw (c .min5 .ensures, c .before .abs4 .ensures, c .before .before .min4 .ensures, c .before .before .before .abs3 .ensures, c .before .before .before .before .min3 .ensures, c .before .before .before .before .before .abs2 .ensures, c .before .before .before .before .before .before .min2 .ensures, c .before .before .before .before .before .before .before .abs .ensures, c .before .before .before .before .before .before .before .before .min .ensures, c .before .before .before .before .before .before .before .before .before .height .ensures, c .before .before .before .before .before .before .before .before .before .before .width .ensures)
 
 pub fit-spec : {M : Type 1} → statement M
 fit-spec =

@@ -25,7 +25,7 @@ is-finite-requires-4 c κs = search needs
 
 -- src/radii.rt:82:5
 returns : tie.Need-returns
-returns c = cc
+returns c = rw (c .is-finite4 .ensures, c .before .is-finite3 .ensures, c .before .before .is-finite2 .ensures, c .before .before .before .is-finite .ensures)
 
 pub is-finite-spec : {M : Type 1} → statement M
 is-finite-spec =

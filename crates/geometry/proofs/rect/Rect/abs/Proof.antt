@@ -28,7 +28,7 @@ max-requires-2 c κs = search needs
 -- src/rect.rt:37:5
 returns : tie.Need-returns
 unfolding ordered
-returns c = cc
+returns c = rw (c .max2 .ensures, c .before .max .ensures, c .before .before .min2 .ensures, c .before .before .before .min .ensures)
 
 pub abs-spec : {M : Type 1} → statement M
 abs-spec = tie.close (tie.spec min-requires min-requires-2 max-requires max-requires-2 returns)

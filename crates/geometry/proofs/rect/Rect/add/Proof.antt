@@ -15,7 +15,7 @@ abs-requires c κs = search needs
 -- src/rect.rt:82:5
 returns : tie.Need-returns
 unfolding plusInsets
-returns c = cc
+returns c = rw (c .before .before .before .before .before .before .before .before .abs .ensures)
 
 pub add-spec : {M : Type 1} → statement M
 add-spec = tie.close (tie.spec abs-requires returns)

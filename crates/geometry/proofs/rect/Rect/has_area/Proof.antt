@@ -21,7 +21,7 @@ height-requires c κs = search needs
 -- src/rect.rt:95:5
 returns : tie.Need-returns
 unfolding hasArea ofBits ofFields odd
-returns c = cc
+returns c = rw (c .height .ensures, c .before .width .ensures)
 
 pub has-area-spec : {M : Type 1} → statement M
 has-area-spec = tie.close (tie.spec width-requires height-requires returns)

@@ -36,7 +36,7 @@ max-requires-4 c κs = search needs
 -- src/rect.rt:48:5
 returns : tie.Need-returns
 unfolding intersection
-returns c = cc
+returns c = rw (c .max4 .ensures, c .before .max3 .ensures, c .before .before .min2 .ensures, c .before .before .before .min .ensures, c .before .before .before .before .max2 .ensures, c .before .before .before .before .before .max .ensures)
 
 pub intersect-spec : {M : Type 1} → statement M
 intersect-spec =

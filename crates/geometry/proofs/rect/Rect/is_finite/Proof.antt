@@ -27,7 +27,7 @@ is-finite-requires-4 c κs = search needs
 -- src/rect.rt:110:5
 returns : tie.Need-returns
 unfolding finiteRect
-returns c = cc
+returns c = rw (c .is-finite4 .ensures, c .before .is-finite3 .ensures, c .before .before .is-finite2 .ensures, c .before .before .before .is-finite .ensures)
 
 pub is-finite-spec : {M : Type 1} → statement M
 is-finite-spec =

@@ -1,8 +1,8 @@
 // The box tree's util.rs.
 ghost use mathlib.Core.Path.{_≡_};
-ghost use Rattle.geometry.specs.Transform.{bboxOf};
+ghost use Rattle.transforms.specs.Transform.{bboxOf};
 use crate::affine::Affine;
-use crate::rect::Rect;
+use geometry::rect::Rect;
 use numbers::max;
 use numbers::min;
 

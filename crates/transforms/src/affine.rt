@@ -1,7 +1,7 @@
 // Transforms, kurbo's affine.rs: (x, y) goes to (a·x + c·y + e, b·x + d·y + f).
 ghost use mathlib.Core.Path.{_≡_};
-ghost use Rattle.geometry.specs.Transform.{identity, product, inverse, mapped, affineEq, finiteAffine};
-use crate::point::Point;
+ghost use Rattle.transforms.specs.Transform.{identity, product, inverse, mapped, affineEq, finiteAffine};
+use geometry::point::Point;
 use numbers::is_finite;
 
 pub struct Affine {

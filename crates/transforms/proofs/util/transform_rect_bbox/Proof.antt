@@ -1,11 +1,11 @@
-use Rattle.geometry.specs.Transform.{bboxOf}
+use Rattle.transforms.specs.Transform.{bboxOf}
 use Prim.Native.Nat.{ℕ, _+_, _-_, _≤_, _<_}
 use native.Mathlib.Omega.{arith}
 use borrow.Author.Needs.{needs}
-use Rattle.geometry.proofs.util.transform_rect_bbox.Statement.{statement}
-use Rattle.geometry.proofs.util.transform_rect_bbox.Tie as tie
-use Rattle.geometry.proofs.util.transform_rect_bbox.Reads as reads
-use Rattle.geometry.proofs.util.transform_rect_bbox.Lts as lts
+use Rattle.transforms.proofs.util.transform_rect_bbox.Statement.{statement}
+use Rattle.transforms.proofs.util.transform_rect_bbox.Tie as tie
+use Rattle.transforms.proofs.util.transform_rect_bbox.Reads as reads
+use Rattle.transforms.proofs.util.transform_rect_bbox.Lts as lts
 use Rattle.numbers.proofs.max.Reads as max-reads
 use Rattle.numbers.proofs.min.Reads as min-reads
 

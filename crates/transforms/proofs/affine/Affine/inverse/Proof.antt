@@ -1,12 +1,12 @@
-use Rattle.geometry.specs.Transform.{inverse}
+use Rattle.transforms.specs.Transform.{inverse}
 use lib.Ieee.{ofBits, ofFields, odd}
 use Prim.Native.Nat.{ℕ, _+_, _-_, _≤_, _<_}
 use native.Mathlib.Omega.{arith}
 use borrow.Author.Needs.{needs}
-use Rattle.geometry.proofs.affine.Affine.inverse.Statement.{statement}
-use Rattle.geometry.proofs.affine.Affine.inverse.Tie as tie
-use Rattle.geometry.proofs.affine.Affine.inverse.Reads as reads
-use Rattle.geometry.proofs.affine.Affine.inverse.Lts as lts
+use Rattle.transforms.proofs.affine.Affine.inverse.Statement.{statement}
+use Rattle.transforms.proofs.affine.Affine.inverse.Tie as tie
+use Rattle.transforms.proofs.affine.Affine.inverse.Reads as reads
+use Rattle.transforms.proofs.affine.Affine.inverse.Lts as lts
 
 -- src/affine.rt:46:5
 returns : tie.Need-returns

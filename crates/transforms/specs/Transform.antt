@@ -2,12 +2,12 @@
 use mathlib.Core.Bool.{Bool, _&&_}
 use lib.Ieee.{Float, neg, eq}
 use lib.Ieee.Scale.{finite}
 use Rattle.geometry.specs.declared.point.Point.{Point}
 use Rattle.geometry.specs.declared.rect.Rect.{Rect}
-use Rattle.geometry.specs.declared.affine.Affine.{Affine}
+use Rattle.transforms.specs.declared.affine.Affine.{Affine}
 use Rattle.numbers.specs.Rounded.{_⊕_, _⊖_, _⊗_, _⊘_, zero, one}
 use Rattle.numbers.specs.Number.{minimum, maximum}
 use Rattle.geometry.specs.Rectangle.{rect}
 
 abbrev pub identity : Affine
 identity = record { a = one; b = zero; c = zero; d = one; e = zero; f = zero }

@@ -1,11 +1,11 @@
-use Rattle.geometry.specs.Transform.{finiteAffine}
+use Rattle.transforms.specs.Transform.{finiteAffine}
 use Prim.Native.Nat.{ℕ, _+_, _-_, _≤_, _<_}
 use native.Mathlib.Omega.{arith}
 use borrow.Author.Needs.{needs}
-use Rattle.geometry.proofs.affine.Affine.is_finite.Statement.{statement}
-use Rattle.geometry.proofs.affine.Affine.is_finite.Tie as tie
-use Rattle.geometry.proofs.affine.Affine.is_finite.Reads as reads
-use Rattle.geometry.proofs.affine.Affine.is_finite.Lts as lts
+use Rattle.transforms.proofs.affine.Affine.is_finite.Statement.{statement}
+use Rattle.transforms.proofs.affine.Affine.is_finite.Tie as tie
+use Rattle.transforms.proofs.affine.Affine.is_finite.Reads as reads
+use Rattle.transforms.proofs.affine.Affine.is_finite.Lts as lts
 use Rattle.numbers.proofs.is_finite.Reads as is-finite-reads
 
 -- src/affine.rt:83:9
@@ -35,7 +35,7 @@ is-finite-requires-6 c κs = search needs
 -- src/affine.rt:80:5
 returns : tie.Need-returns
 unfolding finiteAffine
-returns c = cc
+returns c = rw (c .is-finite6 .ensures, c .before .is-finite5 .ensures, c .before .before .is-finite4 .ensures, c .before .before .before .is-finite3 .ensures, c .before .before .before .before .is-finite2 .ensures, c .before .before .before .before .before .is-finite .ensures)
 
 pub is-finite-spec : {M : Type 1} → statement M
 is-finite-spec =
