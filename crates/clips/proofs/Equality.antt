@@ -1,11 +1,11 @@
 -- Equality of clips as numbers: reflexive on finite values, and symmetric.
 use mathlib.Core.Path.{_≡_, refl}
-use mathlib.Core.Bool.{Bool, true, false}
-use lib.Ieee.{Float, eq}
+use mathlib.Core.Bool.{true}
+use lib.Ieee.{eq}
 use lib.Ieee.Scale.{finite}
 use Rattle.numbers.proofs.Bools.{and-left, and-right}
 use Rattle.numbers.proofs.Order.{four-refl, four-sym}
-use Rattle.geometry.specs.Rectangle.{rect, rectEq, finiteRect}
+use Rattle.geometry.specs.Rectangle.{rect, finiteRect}
 use Rattle.geometry.proofs.Records.{rect-refl, rect-sym}
 use Rattle.clips.specs.declared.radii.RoundedRectRadii.{RoundedRectRadii}
 use Rattle.clips.specs.declared.clip.Clip.{Clip}

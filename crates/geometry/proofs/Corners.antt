@@ -1,6 +1,6 @@
 -- Ordering a rectangle's corners: idempotent to the bit, for every f64, and finite edges stay finite.
-use mathlib.Core.Path.{_≡_, refl}
-use mathlib.Core.Bool.{Bool, true}
+use mathlib.Core.Path.{_≡_}
+use mathlib.Core.Bool.{true}
 use lib.Ieee.{le}
 use lib.Ieee.Scale.{finite}
 use Rattle.numbers.proofs.Bools.{Four, four, all-four}

@@ -1,12 +1,12 @@
 -- Equality as numbers of rectangles and insets: reflexive on finite values, symmetric, and equal values are alike to every
 -- test by edges. And what the area test tells.
-use mathlib.Core.Path.{_≡_, refl}
-use mathlib.Core.Bool.{Bool, true, false, _&&_}
+use mathlib.Core.Path.{_≡_}
+use mathlib.Core.Bool.{true}
 use lib.Ieee.{lt, eq}
 use lib.Ieee.Scale.{finite}
 use Rattle.numbers.specs.Rounded as const
 use Rattle.numbers.proofs.Bools.{and-left, and-right, Four, four}
-use Rattle.numbers.proofs.Order.{eq-refl, finite-number, eq-sym, lt-alike-right, le-alike, four-refl, four-sym, four-alike}
+use Rattle.numbers.proofs.Order.{lt-alike-right, le-alike, four-refl, four-sym, four-alike}
 use Rattle.numbers.proofs.Signs.{above-tells}
 use Rattle.geometry.specs.declared.point.Point.{Point}
 use Rattle.geometry.specs.declared.rect.Rect.{Rect}

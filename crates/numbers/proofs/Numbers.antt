@@ -1,15 +1,14 @@
 -- Laws of single numbers: what the tests of number.rt tell, and the minimum, the maximum and the absolute value by them.
-use mathlib.Core.Path.{_≡_, refl, sym, ap, subst, _∙_}
+use mathlib.Core.Path.{_≡_, refl, sym}
 use mathlib.Core.Logic.{inl, inr}
-use mathlib.Core.Bool.{Bool, true, false, not, _&&_, _||_, cond, Bool·beq}
-use Prim.Native.Nat.{ℕ, zero, suc, _+_, _*_, _^_, _≤_, _<_}
+use mathlib.Core.Bool.{Bool, true, false, _&&_, cond}
+use Prim.Native.Nat.{ℕ, zero, suc, _+_, _*_, _^_, _<_}
 use native.Mathlib.Nat.{mul-one, one-mul, zero-mul, eq-zero-or-pos, mul-pos, pow-suc}
 use native.Mathlib.Omega.{arith}
 use lib.IntN.{ℤ, pos, negsuc}
-use lib.Dec.{eqb, ltb}
-use borrow.Author.Tests.{ltb-true, ltb-false, eqb-true, eqb-false, eq-eqb}
+use borrow.Author.Tests.{ltb-true, ltb-false, eqb-true, eq-eqb}
 use lib.Pow.{pow-pos}
-use lib.Ieee.{Float, nan, inf, fin, binary64, up, down, isNan, lt, eq, le, ne, neg, fits}
+use lib.Ieee.{Float, nan, inf, fin, binary64, up, down, isNan, lt, eq, ne, neg, fits}
 use lib.Ieee.Fits.{up-pos}
 use lib.Ieee.Scale.{finite}
 use Rattle.numbers.specs.Rounded as const

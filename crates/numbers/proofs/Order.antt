@@ -1,9 +1,9 @@
 -- Equality as numbers and the order: equal numbers compare alike with every third number, so no test by edges tells them apart.
 use mathlib.Core.Path.{_≡_, refl, sym, ap, _∙_}
 use mathlib.Core.Logic.{_⊎_, inl, inr}
-use mathlib.Core.Bool.{Bool, true, false, not, _&&_, _||_, Bool·beq}
-use Prim.Native.Nat.{ℕ, _+_, _*_, _≤_, _<_}
-use native.Mathlib.Nat.{mul-comm, mul-assoc, mul-right-comm, zero-mul, zero-add, add-comm, add-mul, mul-lt-mul-of-pos-right, mul-le-mul-right, lt-of-mul-lt-mul-right, le-of-mul-le-mul-right, eq-of-mul-eq-mul-right}
+use mathlib.Core.Bool.{Bool, true, false, _&&_, _||_, Bool·beq}
+use Prim.Native.Nat.{ℕ, _+_, _*_, _<_}
+use native.Mathlib.Nat.{mul-right-comm, zero-mul, zero-add, add-comm, add-mul, mul-lt-mul-of-pos-right, mul-le-mul-right, lt-of-mul-lt-mul-right, le-of-mul-le-mul-right, eq-of-mul-eq-mul-right}
 use native.Mathlib.Omega.{arith}
 use lib.Dec.{eqb, ltb}
 use borrow.Author.Tests.{ltb-true, ltb-false, lt-ltb, le-ltb, eqb-true, eqb-false, eq-eqb, ne-eqb}

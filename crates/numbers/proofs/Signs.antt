@@ -1,6 +1,6 @@
 -- The sign of a difference. What the area test accepts has its low edge below its high edge; and a larger number less a smaller one,
 -- or a number less itself, has its sign clear, so that half the shorter side of an ordered rectangle is no −0.
-use mathlib.Core.Path.{_≡_, refl, sym, ap, _∙_}
+use mathlib.Core.Path.{_≡_, refl, sym, _∙_}
 use mathlib.Core.Bool.{Bool, true, false, not, _&&_, cond, Bool·beq}
 use Prim.Native.Nat.{ℕ, zero, suc, _+_, _-_, _*_, _^_, _<_, _≤_}
 use native.Mathlib.Nat.{le-refl, zero-mul, mul-pos}

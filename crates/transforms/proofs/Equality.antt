@@ -1,7 +1,6 @@
 -- Equality of transforms as numbers: reflexive on finite values, and symmetric.
-use mathlib.Core.Path.{_≡_, refl}
-use mathlib.Core.Bool.{Bool, true, _&&_}
-use lib.Ieee.{eq}
+use mathlib.Core.Path.{_≡_}
+use mathlib.Core.Bool.{true, _&&_}
 use lib.Ieee.Scale.{finite}
 use Rattle.numbers.proofs.Bools.{and-left, and-right}
 use Rattle.numbers.proofs.Order.{eq-refl, finite-number, eq-sym, four-refl}

@@ -1,24 +1,16 @@
-use Rattle.numbers.proofs.Numbers.{abs-below, abs-zero, abs-above}
 use lib.Ieee.{ofBits, ofFields, odd}
-use Prim.Native.Nat.{ℕ, _+_, _-_, _≤_, _<_}
-use native.Mathlib.Omega.{arith}
-use borrow.Author.Needs.{needs}
+use Rattle.numbers.proofs.Numbers.{abs-below, abs-zero, abs-above}
 use Rattle.numbers.proofs.abs.Statement.{statement}
 use Rattle.numbers.proofs.abs.Tie as tie
-use Rattle.numbers.proofs.abs.Reads as reads
-use Rattle.numbers.proofs.abs.Lts as lts
 
--- src/number.rt:31:9
 returns : tie.Need-returns
 unfolding ofBits ofFields odd
 returns c = abs-below (c .before .args .x) (c .if1 .taken)
 
--- src/number.rt:27:1
 returns-2 : tie.Need-returns-2
 unfolding ofBits ofFields odd
 returns-2 c = abs-zero (c .before .before .args .x) (c .before .before .good .0 .1) (c .if2 .taken)
 
--- src/number.rt:27:1
 returns-3 : tie.Need-returns-3
 unfolding ofBits ofFields odd
 returns-3 c = abs-above (c .before .before .args .x) (c .before .if1 .left) (c .if2 .left)

@@ -1,22 +1,14 @@
-use mathlib.Core.Path.{_≡_, sym, _∙_}
+use mathlib.Core.Path.{sym, _∙_}
 use Rattle.numbers.proofs.Numbers.{ne-self, min-other, min-second, min-first}
-use Prim.Native.Nat.{ℕ, _+_, _-_, _≤_, _<_}
-use native.Mathlib.Omega.{arith}
-use borrow.Author.Needs.{needs}
 use Rattle.numbers.proofs.min.Statement.{statement}
 use Rattle.numbers.proofs.min.Tie as tie
-use Rattle.numbers.proofs.min.Reads as reads
-use Rattle.numbers.proofs.min.Lts as lts
 
--- src/number.rt:11:9
 returns : tie.Need-returns
 returns c = sym (min-other (c .before .args .x) (c .before .args .y) (sym (ne-self (c .before .args .x)) ∙ c .if1 .taken))
 
--- src/number.rt:7:1
 returns-2 : tie.Need-returns-2
 returns-2 c = sym (min-second (c .before .before .args .x) (c .before .before .args .y) (c .if2 .taken))
 
--- src/number.rt:7:1
 returns-3 : tie.Need-returns-3
 returns-3 c = sym (min-first (c .before .before .args .x) (c .before .before .args .y) (sym (ne-self (c .before .before .args .x)) ∙ c .before .if1 .left) (c .if2 .left))
 

@@ -1,47 +1,32 @@
-use Rattle.transforms.specs.Transform.{bboxOf}
-use Prim.Native.Nat.{ℕ, _+_, _-_, _≤_, _<_}
-use native.Mathlib.Omega.{arith}
 use borrow.Author.Needs.{needs}
+use Rattle.transforms.specs.Transform.{bboxOf}
 use Rattle.transforms.proofs.util.transform_rect_bbox.Statement.{statement}
 use Rattle.transforms.proofs.util.transform_rect_bbox.Tie as tie
-use Rattle.transforms.proofs.util.transform_rect_bbox.Reads as reads
-use Rattle.transforms.proofs.util.transform_rect_bbox.Lts as lts
-use Rattle.numbers.proofs.max.Reads as max-reads
-use Rattle.numbers.proofs.min.Reads as min-reads
 
--- src/util.rt:17:17
 min-requires : tie.Need-min-requires
 min-requires c κs = search needs
 
--- src/util.rt:17:49
 min-requires-2 : tie.Need-min-requires-2
 min-requires-2 c κs = search needs
 
--- src/util.rt:18:17
 max-requires : tie.Need-max-requires
 max-requires c κs = search needs
 
--- src/util.rt:18:49
 max-requires-2 : tie.Need-max-requires-2
 max-requires-2 c κs = search needs
 
--- src/util.rt:19:17
 min-requires-3 : tie.Need-min-requires-3
 min-requires-3 c κs = search needs
 
--- src/util.rt:19:49
 min-requires-4 : tie.Need-min-requires-4
 min-requires-4 c κs = search needs
 
--- src/util.rt:20:17
 max-requires-3 : tie.Need-max-requires-3
 max-requires-3 c κs = search needs
 
--- src/util.rt:20:49
 max-requires-4 : tie.Need-max-requires-4
 max-requires-4 c κs = search needs
 
--- src/util.rt:10:1
 returns : tie.Need-returns
 unfolding bboxOf
 returns c =

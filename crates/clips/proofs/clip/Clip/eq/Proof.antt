@@ -1,55 +1,38 @@
-use Rattle.clips.specs.Clips.{clipEq}
 use lib.Ieee.{ofBits, ofFields, odd}
-use Prim.Native.Nat.{ℕ, _+_, _-_, _≤_, _<_}
-use native.Mathlib.Omega.{arith}
 use borrow.Author.Needs.{needs}
+use Rattle.clips.specs.Clips.{clipEq}
 use Rattle.clips.proofs.clip.Clip.eq.Statement.{statement}
 use Rattle.clips.proofs.clip.Clip.eq.Tie as tie
-use Rattle.clips.proofs.clip.Clip.eq.Reads as reads
-use Rattle.clips.proofs.clip.Clip.eq.Lts as lts
-use Rattle.clips.proofs.clip.Clip.has_shape.Reads as has-shape-reads
-use Rattle.clips.proofs.clip.Clip.is_none.Reads as is-none-reads
-use Rattle.clips.proofs.radii.RoundedRectRadii.new.Reads as new-reads
 
--- src/clip.rt:214:27
 enum-told : tie.Need-enum-told
 enum-told c = search needs
 
--- src/clip.rt:214:27
 is-none-requires : tie.Need-is-none-requires
 is-none-requires c κs = search needs
 
--- src/clip.rt:215:28
 enum-known-self : tie.Need-enum-known-self
 enum-known-self c = search needs
 
--- src/clip.rt:218:21
 new-requires : tie.Need-new-requires
 new-requires c κs = search needs
 
--- src/clip.rt:216:17
 has-shape-requires : tie.Need-has-shape-requires
 has-shape-requires c κs = search needs
 
--- src/clip.rt:222:17
 enum-known-self-2 : tie.Need-enum-known-self-2
 enum-known-self-2 c = search needs
 
--- src/clip.rt:237:17
 has-shape-requires-2 : tie.Need-has-shape-requires-2
 has-shape-requires-2 c κs = search needs
 
--- src/clip.rt:210:5
 returns : tie.Need-returns
 unfolding clipEq ofBits ofFields odd
 returns c = rw (c .before .enum-told .given .1, c .is-none .ensures)
 
--- src/clip.rt:210:5
 returns-2 : tie.Need-returns-2
 unfolding clipEq ofBits ofFields odd
 returns-2 c = rw (c .before .before .before .self .given .1, c .has-shape .ensures, c .before .new .ensures)
 
--- src/clip.rt:210:5
 returns-3 : tie.Need-returns-3
 unfolding clipEq ofBits ofFields odd
 returns-3 c = rw (c .before .before .self2 .given .1, c .has-shape2 .ensures)

@@ -1,35 +1,25 @@
-use Rattle.clips.specs.Clips.{clipRect}
-use Prim.Native.Nat.{ℕ, _+_, _-_, _≤_, _<_}
-use native.Mathlib.Omega.{arith}
 use borrow.Author.Needs.{needs}
+use Rattle.clips.specs.Clips.{clipRect}
 use Rattle.clips.proofs.clip.Clip.rect.Statement.{statement}
 use Rattle.clips.proofs.clip.Clip.rect.Tie as tie
-use Rattle.clips.proofs.clip.Clip.rect.Reads as reads
-use Rattle.clips.proofs.clip.Clip.rect.Lts as lts
 
--- src/clip.rt:122:27
 enum-told : tie.Need-enum-told
 enum-told c = search needs
 
--- src/clip.rt:123:28
 enum-known-self : tie.Need-enum-known-self
 enum-known-self c = search needs
 
--- src/clip.rt:125:17
 enum-known-self-2 : tie.Need-enum-known-self-2
 enum-known-self-2 c = search needs
 
--- src/clip.rt:118:5
 returns : tie.Need-returns
 unfolding clipRect
 returns c = search needs
 
--- src/clip.rt:118:5
 returns-2 : tie.Need-returns-2
 unfolding clipRect
 returns-2 c = rw (c .before .self .given .1)
 
--- src/clip.rt:118:5
 returns-3 : tie.Need-returns-3
 unfolding clipRect
 returns-3 c = rw (c .before .self2 .given .1)

@@ -1,62 +1,42 @@
-use Rattle.clips.specs.Clips.{fitted}
 use lib.Ieee.{ofBits, ofFields, odd}
-use Prim.Native.Nat.{ℕ, _+_, _-_, _≤_, _<_}
-use native.Mathlib.Omega.{arith}
 use borrow.Author.Needs.{needs}
+use Rattle.clips.specs.Clips.{fitted}
 use Rattle.clips.proofs.radii.RoundedRectRadii.fit.Statement.{statement}
 use Rattle.clips.proofs.radii.RoundedRectRadii.fit.Tie as tie
-use Rattle.clips.proofs.radii.RoundedRectRadii.fit.Reads as reads
-use Rattle.clips.proofs.radii.RoundedRectRadii.fit.Lts as lts
-use Rattle.numbers.proofs.abs.Reads as abs-reads
-use Rattle.numbers.proofs.min.Reads as min-reads
-use Rattle.geometry.proofs.rect.Rect.height.Reads as height-reads
-use Rattle.geometry.proofs.rect.Rect.width.Reads as width-reads
 
--- src/radii.rt:36:23
 width-requires : tie.Need-width-requires
 width-requires c κs = search needs
 
--- src/radii.rt:36:37
 height-requires : tie.Need-height-requires
 height-requires c κs = search needs
 
--- src/radii.rt:36:19
 min-requires : tie.Need-min-requires
 min-requires c κs = search needs
 
--- src/radii.rt:38:27
 abs-requires : tie.Need-abs-requires
 abs-requires c κs = search needs
 
--- src/radii.rt:38:23
 min-requires-2 : tie.Need-min-requires-2
 min-requires-2 c κs = search needs
 
--- src/radii.rt:39:28
 abs-requires-2 : tie.Need-abs-requires-2
 abs-requires-2 c κs = search needs
 
--- src/radii.rt:39:24
 min-requires-3 : tie.Need-min-requires-3
 min-requires-3 c κs = search needs
 
--- src/radii.rt:40:31
 abs-requires-3 : tie.Need-abs-requires-3
 abs-requires-3 c κs = search needs
 
--- src/radii.rt:40:27
 min-requires-4 : tie.Need-min-requires-4
 min-requires-4 c κs = search needs
 
--- src/radii.rt:41:30
 abs-requires-4 : tie.Need-abs-requires-4
 abs-requires-4 c κs = search needs
 
--- src/radii.rt:41:26
 min-requires-5 : tie.Need-min-requires-5
 min-requires-5 c κs = search needs
 
--- src/radii.rt:33:5
 returns : tie.Need-returns
 unfolding fitted ofBits ofFields odd
 returns c = rw (c .min5 .ensures, c .before .abs4 .ensures, c .before .before .min4 .ensures, c .before .before .before .abs3 .ensures, c .before .before .before .before .min3 .ensures, c .before .before .before .before .before .abs2 .ensures, c .before .before .before .before .before .before .min2 .ensures, c .before .before .before .before .before .before .before .abs .ensures, c .before .before .before .before .before .before .before .before .min .ensures, c .before .before .before .before .before .before .before .before .before .height .ensures, c .before .before .before .before .before .before .before .before .before .before .width .ensures)

@@ -1,29 +1,19 @@
-use Prim.Native.Nat.{ℕ, _+_, _-_, _≤_, _<_}
-use native.Mathlib.Omega.{arith}
 use borrow.Author.Needs.{needs}
 use Rattle.clips.proofs.radii.RoundedRectRadii.is_finite.Statement.{statement}
 use Rattle.clips.proofs.radii.RoundedRectRadii.is_finite.Tie as tie
-use Rattle.clips.proofs.radii.RoundedRectRadii.is_finite.Reads as reads
-use Rattle.clips.proofs.radii.RoundedRectRadii.is_finite.Lts as lts
-use Rattle.numbers.proofs.is_finite.Reads as is-finite-reads
 
--- src/radii.rt:85:9
 is-finite-requires : tie.Need-is-finite-requires
 is-finite-requires c κs = search needs
 
--- src/radii.rt:86:15
 is-finite-requires-2 : tie.Need-is-finite-requires-2
 is-finite-requires-2 c κs = search needs
 
--- src/radii.rt:87:16
 is-finite-requires-3 : tie.Need-is-finite-requires-3
 is-finite-requires-3 c κs = search needs
 
--- src/radii.rt:87:47
 is-finite-requires-4 : tie.Need-is-finite-requires-4
 is-finite-requires-4 c κs = search needs
 
--- src/radii.rt:82:5
 returns : tie.Need-returns
 returns c = rw (c .is-finite4 .ensures, c .before .is-finite3 .ensures, c .before .before .is-finite2 .ensures, c .before .before .before .is-finite .ensures)
 

@@ -1,34 +1,24 @@
-use Rattle.clips.specs.Clips.{quadrant}
 use lib.Ieee.{ofBits, ofFields, odd}
-use Prim.Native.Nat.{ℕ, _+_, _-_, _≤_, _<_}
-use native.Mathlib.Omega.{arith}
-use borrow.Author.Needs.{needs}
+use Rattle.clips.specs.Clips.{quadrant}
 use Rattle.clips.proofs.radii.RoundedRectRadii.quadrant.Statement.{statement}
 use Rattle.clips.proofs.radii.RoundedRectRadii.quadrant.Tie as tie
-use Rattle.clips.proofs.radii.RoundedRectRadii.quadrant.Reads as reads
-use Rattle.clips.proofs.radii.RoundedRectRadii.quadrant.Lts as lts
 
--- src/radii.rt:50:13
 returns : tie.Need-returns
 unfolding quadrant ofBits ofFields odd
 returns c = rw (quadrant, c .if1 .taken)
 
--- src/radii.rt:53:13
 returns-2 : tie.Need-returns-2
 unfolding quadrant ofBits ofFields odd
 returns-2 c = rw (quadrant, c .before .if1 .left, c .if2 .taken)
 
--- src/radii.rt:56:13
 returns-3 : tie.Need-returns-3
 unfolding quadrant ofBits ofFields odd
 returns-3 c = rw (quadrant, c .before .before .if1 .left, c .before .if2 .left, c .if3 .taken)
 
--- src/radii.rt:59:13
 returns-4 : tie.Need-returns-4
 unfolding quadrant ofBits ofFields odd
 returns-4 c = rw (quadrant, c .before .before .before .if1 .left, c .before .before .if2 .left, c .before .if3 .left, c .if4 .taken)
 
--- src/radii.rt:46:5
 returns-5 : tie.Need-returns-5
 unfolding quadrant ofBits ofFields odd
 returns-5 c = rw (quadrant, c .before .before .before .if1 .left, c .before .before .if2 .left, c .before .if3 .left, c .if4 .left)

@@ -1,31 +1,20 @@
-use Rattle.geometry.specs.Rectangle.{ordered}
-use Prim.Native.Nat.{ℕ, _+_, _-_, _≤_, _<_}
-use native.Mathlib.Omega.{arith}
 use borrow.Author.Needs.{needs}
+use Rattle.geometry.specs.Rectangle.{ordered}
 use Rattle.geometry.proofs.rect.Rect.abs.Statement.{statement}
 use Rattle.geometry.proofs.rect.Rect.abs.Tie as tie
-use Rattle.geometry.proofs.rect.Rect.abs.Reads as reads
-use Rattle.geometry.proofs.rect.Rect.abs.Lts as lts
-use Rattle.numbers.proofs.max.Reads as max-reads
-use Rattle.numbers.proofs.min.Reads as min-reads
 
--- src/rect.rt:41:17
 min-requires : tie.Need-min-requires
 min-requires c κs = search needs
 
--- src/rect.rt:42:17
 min-requires-2 : tie.Need-min-requires-2
 min-requires-2 c κs = search needs
 
--- src/rect.rt:43:17
 max-requires : tie.Need-max-requires
 max-requires c κs = search needs
 
--- src/rect.rt:44:17
 max-requires-2 : tie.Need-max-requires-2
 max-requires-2 c κs = search needs
 
--- src/rect.rt:37:5
 returns : tie.Need-returns
 unfolding ordered
 returns c = rw (c .max2 .ensures, c .before .max .ensures, c .before .before .min2 .ensures, c .before .before .before .min .ensures)
