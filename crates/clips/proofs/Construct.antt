@@ -1,5 +1,5 @@
 -- The constructor of clips: idempotent to the bit on every clip, finite values stay finite, and never four zero radii on a rounded clip.
-use mathlib.Core.Path.{_≡_, refl, ap, _∙_}
+use mathlib.Core.Path.{_≡_, refl, sym, ap, _∙_}
 use mathlib.Core.Bool.{Bool, true, false, _&&_}
 use lib.Ieee.{Float, le, eq}
 use lib.Ieee.Scale.{finite}
@@ -16,7 +16,7 @@ use Rattle.clips.specs.declared.clip.Clip.{Clip}
 use Rattle.clips.specs.declared.clip.Clip.the-variants as is
 use Rattle.clips.specs.declared.clip.ClipRect.{ClipRect}
 use Rattle.clips.specs.declared.clip.ClipRect.the-variants as of
-use Rattle.clips.specs.Clips.{radii, all, cap, fitted, square, rounded, shaped, constructed, clipRect, finiteClip}
+use Rattle.clips.specs.Clips.{radii, all, cap, fitted, square, rounded, shaped, constructed, clipRect, clipRadii, noRadii, constructedOf, finiteClipRect, finiteClip}
 
 -- ---- the cap and the radii
 
@@ -51,6 +51,11 @@ flat is.None = false
 flat (is.Square x0 y0 x1 y1) = false
 flat (is.Rounded x0 y0 x1 y1 tl tr br bl) = all (λ x. eq x const.zero) (radii tl tr br bl)
 
+-- no radius stays none under any cap, so a square stays square
+square-again : (r : Rect) → magnitude (cap r) ≡ cap r → shaped r (fitted r noRadii) ≡ square r
+unfolding fitted shaped eq
+square-again r C = rw (fit-zero (cap r) C)
+
 module _ (r : Rect) (q : RoundedRectRadii) where
   shaped-cases : {A : Type 0} → (shaped r q ≡ square r → A) → (shaped r q ≡ rounded r q → all (λ x. eq x const.zero) q ≡ false → A) → A
   unfolding shaped
@@ -67,64 +72,67 @@ module _ (r : Rect) (q : RoundedRectRadii) where
   shaped-rect = shaped-cases (λ (e : shaped r q ≡ square r). rw e) (λ (e : shaped r q ≡ rounded r q) (h : all (λ x. eq x const.zero) q ≡ false). rw e)
 
   shaped-finite : finiteRect r ≡ true → all finite q ≡ true → finiteClip (shaped r q) ≡ true
-  unfolding finiteClip
-  shaped-finite f g = shaped-cases (λ (e : shaped r q ≡ square r). rw e f) (λ (e : shaped r q ≡ rounded r q) (h : all (λ x. eq x const.zero) q ≡ false). rw (e, f, g))
+  unfolding finiteClip finiteClipRect clipRect clipRadii
+  shaped-finite f g = shaped-cases (λ (e : shaped r q ≡ square r). rw (e, f)) (λ (e : shaped r q ≡ rounded r q) (h : all (λ x. eq x const.zero) q ≡ false). rw (e, f, g))
 
-  -- constructed again, where the corners are in order and the radii fit
-  shaped-again : ordered r ≡ r → fitted r q ≡ q → constructed (shaped r q) ≡ shaped r q
-  unfolding constructed
-  shaped-again o f =
-      shaped-cases (λ (e : shaped r q ≡ square r). rw (e, o))
+  -- constructed again, where the corners are in order, the cap's sign is clear and the radii fit
+  shaped-again : ordered r ≡ r → magnitude (cap r) ≡ cap r → fitted r q ≡ q → constructed (shaped r q) ≡ shaped r q
+  unfolding constructed clipRect clipRadii
+  shaped-again o C f =
+      shaped-cases (λ (e : shaped r q ≡ square r). ap constructed e ∙ rw o (square-again r C) ∙ sym e)
       (λ (e : shaped r q ≡ rounded r q) (h : all (λ x. eq x const.zero) q ≡ false). ap constructed e ∙ rw (o, f))
 
 -- idempotent, to the bit, on every clip
+again : (g : ClipRect) (q : RoundedRectRadii) → constructed (constructedOf g q) ≡ constructedOf g q
+unfolding constructed clipRect clipRadii
+again of.None q = refl
+again (of.Some g) q = shaped-again (ordered g) (fitted (ordered g) q) (ordered-again g) (cap-clear g) (fitted-again (ordered g) q (cap-clear g))
+
 pub construct-again : (c : Clip) → constructed (constructed c) ≡ constructed c
 unfolding constructed
-construct-again is.None = refl
-construct-again (is.Square x0 y0 x1 y1) = rw (ordered-again (rect x0 y0 x1 y1))
-construct-again (is.Rounded x0 y0 x1 y1 tl tr br bl) =
-    let r = ordered (rect x0 y0 x1 y1) in
-    shaped-again r (fitted r (radii tl tr br bl)) (ordered-again (rect x0 y0 x1 y1)) (fitted-again r (radii tl tr br bl) (cap-clear (rect x0 y0 x1 y1)))
+construct-again c = again (clipRect c) (clipRadii c)
 
 -- never a rounded clip with four zero radii
+never-flat : (g : ClipRect) (q : RoundedRectRadii) → flat (constructedOf g q) ≡ false
+never-flat of.None q = refl
+never-flat (of.Some g) q = shaped-flat (ordered g) (fitted (ordered g) q)
+
 pub construct-flat : (c : Clip) → flat (constructed c) ≡ false
 unfolding constructed
-construct-flat is.None = refl
-construct-flat (is.Square x0 y0 x1 y1) = refl
-construct-flat (is.Rounded x0 y0 x1 y1 tl tr br bl) =
-    let r = ordered (rect x0 y0 x1 y1) in
-    shaped-flat r (fitted r (radii tl tr br bl))
+construct-flat c = never-flat (clipRect c) (clipRadii c)
+
+-- finite values stay finite
+stays-finite : (g : ClipRect) (q : RoundedRectRadii) → finiteClipRect g ≡ true → all finite q ≡ true → finiteClip (constructedOf g q) ≡ true
+unfolding finiteClip finiteClipRect clipRect clipRadii
+stays-finite of.None q f h = refl
+stays-finite (of.Some g) q f h =
+    shaped-finite (ordered g) (fitted (ordered g) q) (ordered-finite g f) (fitted-finite (ordered g) q (cap-clear g) h)
 
 pub construct-finite : (c : Clip) → finiteClip c ≡ true → finiteClip (constructed c) ≡ true
 unfolding constructed finiteClip
-construct-finite is.None f = refl
-construct-finite (is.Square x0 y0 x1 y1) f = ordered-finite (rect x0 y0 x1 y1) f
-construct-finite (is.Rounded x0 y0 x1 y1 tl tr br bl) f =
-    let e = rect x0 y0 x1 y1 in
-    let q = radii tl tr br bl in
-    shaped-finite (ordered e) (fitted (ordered e) q) (ordered-finite e (and-left (finiteRect e) (all finite q) f))
-    (fitted-finite (ordered e) q (cap-clear e) (and-right (finiteRect e) (all finite q) f))
-
--- a square clip is a rounded one with all radii 0
-pub construct-square : (x0 y0 x1 y1 : Float)
-    → constructed (is.Rounded x0 y0 x1 y1 const.zero const.zero const.zero const.zero) ≡ constructed (is.Square x0 y0 x1 y1)
-unfolding constructed fitted shaped eq
-construct-square x0 y0 x1 y1 =
-    let r = ordered (rect x0 y0 x1 y1) in
-    rw (fit-zero (cap r) (cap-clear (rect x0 y0 x1 y1)))
+construct-finite c f =
+    stays-finite (clipRect c) (clipRadii c) (and-left (finiteClipRect (clipRect c)) (all finite (clipRadii c)) f)
+    (and-right (finiteClipRect (clipRect c)) (all finite (clipRadii c)) f)
 
 -- a clip's rectangle, where there is one, has its corners in order
 abbrev pub inOrder : ClipRect → Bool
 inOrder of.None = true
 inOrder (of.Some r) = le (r .x0) (r .x1) && le (r .y0) (r .y1)
 
--- so it has after the constructor
+in-order : (g : ClipRect) (q : RoundedRectRadii) → finiteClipRect g ≡ true → inOrder (clipRect (constructedOf g q)) ≡ true
+unfolding finiteClipRect clipRect
+in-order of.None q f = refl
+in-order (of.Some g) q f =
+    let o = ordered-le g f in
+    rw (shaped-rect (ordered g) (fitted (ordered g) q), o .0, o .1)
+
 pub construct-ordered : (c : Clip) → finiteClip c ≡ true → inOrder (clipRect (constructed c)) ≡ true
-unfolding constructed clipRect finiteClip
-construct-ordered is.None f = refl
-construct-ordered (is.Square x0 y0 x1 y1) f = let o = ordered-le (rect x0 y0 x1 y1) f in rw (o .0, o .1)
-construct-ordered (is.Rounded x0 y0 x1 y1 tl tr br bl) f =
-    let e = rect x0 y0 x1 y1 in
-    let q = radii tl tr br bl in
-    let o = ordered-le e (and-left (finiteRect e) (all finite q) f) in
-    rw (shaped-rect (ordered e) (fitted (ordered e) q), o .0, o .1)
+unfolding constructed finiteClip
+construct-ordered c f = in-order (clipRect c) (clipRadii c) (and-left (finiteClipRect (clipRect c)) (all finite (clipRadii c)) f)
+
+-- a square clip comes out square, with its corners in order
+pub construct-square : (x0 y0 x1 y1 : Float) → constructed (is.Square x0 y0 x1 y1) ≡ square (ordered (rect x0 y0 x1 y1))
+unfolding constructed clipRect clipRadii fitted shaped eq
+construct-square x0 y0 x1 y1 =
+    let r = ordered (rect x0 y0 x1 y1) in
+    rw (fit-zero (cap r) (cap-clear (rect x0 y0 x1 y1)))

@@ -1,5 +1,5 @@
 -- Clips (document 01, module 2): none, square, or rounded with four radii, in the order top left, top right, bottom right, bottom
--- left.
+-- left. A clip is read by its rectangle and its radii: "square means all radii 0".
 use mathlib.Core.Bool.{Bool, true, false, _&&_, cond}
 use lib.Ieee.{Float, lt, le, eq}
 use lib.Ieee.Scale.{finite}
@@ -35,6 +35,18 @@ radiiEq r s =
     eq (r .«top_left») (s .«top_left») && eq (r .«top_right») (s .«top_right»)
     && (eq (r .«bottom_right») (s .«bottom_right») && eq (r .«bottom_left») (s .«bottom_left»))
 
+-- ---- a clip's parts
+
+unfoldable pub clipRect : Clip → ClipRect
+clipRect is.None = of.None
+clipRect (is.Square x0 y0 x1 y1) = of.Some (rect x0 y0 x1 y1)
+clipRect (is.Rounded x0 y0 x1 y1 tl tr br bl) = of.Some (rect x0 y0 x1 y1)
+
+unfoldable pub clipRadii : Clip → RoundedRectRadii
+clipRadii is.None = noRadii
+clipRadii (is.Square x0 y0 x1 y1) = noRadii
+clipRadii (is.Rounded x0 y0 x1 y1 tl tr br bl) = radii tl tr br bl
+
 -- ---- the constructor: corners put in order, radii made non-negative, each capped at half the shorter side; square means all radii 0
 
 -- half the shorter side
@@ -53,11 +65,12 @@ rounded r q = is.Rounded (r .x0) (r .y0) (r .x1) (r .y1) (q .«top_left») (q .�
 unfoldable pub shaped : Rect → RoundedRectRadii → Clip
 shaped r q = cond (all (λ x. eq x zero) q) (square r) (rounded r q)
 
+abbrev pub constructedOf : ClipRect → RoundedRectRadii → Clip
+constructedOf of.None q = is.None
+constructedOf (of.Some r) q = shaped (ordered r) (fitted (ordered r) q)
+
 unfoldable pub constructed : Clip → Clip
-constructed is.None = is.None
-constructed (is.Square x0 y0 x1 y1) = square (ordered (rect x0 y0 x1 y1))
-constructed (is.Rounded x0 y0 x1 y1 tl tr br bl) =
-    shaped (ordered (rect x0 y0 x1 y1)) (fitted (ordered (rect x0 y0 x1 y1)) (radii tl tr br bl))
+constructed c = constructedOf (clipRect c) (clipRadii c)
 
 -- ---- a point inside, measured from the centre
 
@@ -88,37 +101,30 @@ insideRounded r q p =
     let dy = p .y ⊖ centre r .y in
     insideAt r dx dy (quadrant q dx dy)
 
--- the clip's rectangle, if there is a clip
-unfoldable pub clipRect : Clip → ClipRect
-clipRect is.None = of.None
-clipRect (is.Square x0 y0 x1 y1) = of.Some (rect x0 y0 x1 y1)
-clipRect (is.Rounded x0 y0 x1 y1 tl tr br bl) = of.Some (rect x0 y0 x1 y1)
+-- no clip leaves every point inside
+abbrev pub insideOf : ClipRect → RoundedRectRadii → Point → Bool
+insideOf of.None q p = true
+insideOf (of.Some r) q p = insideRounded r q p
 
--- no clip leaves every point inside; a square clip has all radii 0
 unfoldable pub inside : Clip → Point → Bool
-inside is.None p = true
-inside (is.Square x0 y0 x1 y1) p = insideRounded (rect x0 y0 x1 y1) noRadii p
-inside (is.Rounded x0 y0 x1 y1 tl tr br bl) p = insideRounded (rect x0 y0 x1 y1) (radii tl tr br bl) p
+inside c p = insideOf (clipRect c) (clipRadii c) p
 
--- ---- equality as numbers, with a square clip's radii 0; finiteness of what the case carries, as handed over
+-- ---- equality as numbers
 
--- this clip has this rectangle and these radii
-unfoldable pub hasShape : Rect → RoundedRectRadii → Clip → Bool
-hasShape r q is.None = false
-hasShape r q (is.Square x0 y0 x1 y1) = rectEq r (rect x0 y0 x1 y1) && radiiEq q noRadii
-hasShape r q (is.Rounded x0 y0 x1 y1 tl tr br bl) = rectEq r (rect x0 y0 x1 y1) && radiiEq q (radii tl tr br bl)
-
-abbrev pub isNone : Clip → Bool
-isNone is.None = true
-isNone (is.Square x0 y0 x1 y1) = false
-isNone (is.Rounded x0 y0 x1 y1 tl tr br bl) = false
+unfoldable pub clipRectEq : ClipRect → ClipRect → Bool
+clipRectEq of.None of.None = true
+clipRectEq of.None (of.Some s) = false
+clipRectEq (of.Some r) of.None = false
+clipRectEq (of.Some r) (of.Some s) = rectEq r s
 
 unfoldable pub clipEq : Clip → Clip → Bool
-clipEq is.None d = isNone d
-clipEq (is.Square x0 y0 x1 y1) d = hasShape (rect x0 y0 x1 y1) noRadii d
-clipEq (is.Rounded x0 y0 x1 y1 tl tr br bl) d = hasShape (rect x0 y0 x1 y1) (radii tl tr br bl) d
+clipEq c d = clipRectEq (clipRect c) (clipRect d) && radiiEq (clipRadii c) (clipRadii d)
+
+-- ---- finiteness of what the case carries, as handed over: what refusal 5 asks
+
+unfoldable pub finiteClipRect : ClipRect → Bool
+finiteClipRect of.None = true
+finiteClipRect (of.Some r) = finiteRect r
 
 unfoldable pub finiteClip : Clip → Bool
-finiteClip is.None = true
-finiteClip (is.Square x0 y0 x1 y1) = finiteRect (rect x0 y0 x1 y1)
-finiteClip (is.Rounded x0 y0 x1 y1 tl tr br bl) = finiteRect (rect x0 y0 x1 y1) && all finite (radii tl tr br bl)
+finiteClip c = finiteClipRect (clipRect c) && all finite (clipRadii c)

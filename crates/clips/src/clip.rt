@@ -1,6 +1,6 @@
 // Clips, kurbo's rounded_rect.rs: where the box tree has an Option<RoundedRect>, a clip is none, square, or rounded.
 ghost use mathlib.Core.Path.{_≡_};
-ghost use Rattle.clips.specs.Clips.{excess, insideRounded, inside, shaped, constructed, clipRect, hasShape, isNone, clipEq, finiteClip};
+ghost use Rattle.clips.specs.Clips.{excess, insideRounded, inside, shaped, constructed, clipRect, clipRadii, clipRectEq, clipEq, finiteClipRect, finiteClip};
 use crate::radii::RoundedRectRadii;
 use geometry::point::Point;
 use geometry::rect::Rect;
@@ -77,44 +77,34 @@ fn winding(r: Rect, q: RoundedRectRadii, p: Point) -> bool
     px * px + py * py <= radius * radius
 }
 
-impl Clip {
-    // The constructor, RoundedRect::from_rect: insert and the clip setter put every clip through it.
-    pub fn construct(self) -> Clip
-        ensures { λ c. ⌜ c ≡ constructed self ⌝ }
+impl ClipRect {
+    // Equality as numbers.
+    pub fn eq(self, other: ClipRect) -> bool
+        ensures { λ b. ⌜ b ≡ clipRectEq self other ⌝ }
     {
         match self {
-            Clip::None => Clip::None,
-            Clip::Square { x0, y0, x1, y1 } => {
-                let r = Rect { x0, y0, x1, y1 }.abs();
-                Clip::Square {
-                    x0: r.x0,
-                    y0: r.y0,
-                    x1: r.x1,
-                    y1: r.y1,
-                }
-            }
-            Clip::Rounded {
-                x0,
-                y0,
-                x1,
-                y1,
-                top_left,
-                top_right,
-                bottom_right,
-                bottom_left,
-            } => {
-                let r = Rect { x0, y0, x1, y1 }.abs();
-                let q = RoundedRectRadii {
-                    top_left,
-                    top_right,
-                    bottom_right,
-                    bottom_left,
-                };
-                shape(r, q.fit(r))
-            }
+            ClipRect::None => match other {
+                ClipRect::None => true,
+                ClipRect::Some(_) => false,
+            },
+            ClipRect::Some(r) => match other {
+                ClipRect::None => false,
+                ClipRect::Some(s) => r.eq(s),
+            },
         }
     }
 
+    pub fn is_finite(self) -> bool
+        ensures { λ b. ⌜ b ≡ finiteClipRect self ⌝ }
+    {
+        match self {
+            ClipRect::None => true,
+            ClipRect::Some(r) => r.is_finite(),
+        }
+    }
+}
+
+impl Clip {
     pub fn rect(self) -> ClipRect
         ensures { λ r. ⌜ r ≡ clipRect self ⌝ }
     {
@@ -134,150 +124,69 @@ impl Clip {
         }
     }
 
-    pub fn contains(self, p: Point) -> bool
-        ensures { λ b. ⌜ b ≡ inside self p ⌝ }
+    // A square clip's radii are 0.
+    pub fn radii(self) -> RoundedRectRadii
+        ensures { λ q. ⌜ q ≡ clipRadii self ⌝ }
     {
         match self {
-            Clip::None => true,
-            Clip::Square { x0, y0, x1, y1 } => {
-                winding(
-                    Rect { x0, y0, x1, y1 },
-                    RoundedRectRadii::new(0.0, 0.0, 0.0, 0.0),
-                    p,
-                )
-            }
             Clip::Rounded {
-                x0,
-                y0,
-                x1,
-                y1,
+                x0: _,
+                y0: _,
+                x1: _,
+                y1: _,
                 top_left,
                 top_right,
                 bottom_right,
                 bottom_left,
             } => {
-                let q = RoundedRectRadii {
+                RoundedRectRadii {
                     top_left,
                     top_right,
                     bottom_right,
                     bottom_left,
-                };
-                winding(Rect { x0, y0, x1, y1 }, q, p)
+                }
             }
-        }
-    }
-
-    // The clip has this rectangle and these radii, as numbers.
-    fn has_shape(self, r: Rect, q: RoundedRectRadii) -> bool
-        ensures { λ b. ⌜ b ≡ hasShape r q self ⌝ }
-    {
-        match self {
-            Clip::None => false,
-            Clip::Square { x0, y0, x1, y1 } => {
-                r.eq(Rect { x0, y0, x1, y1 }) & q.eq(RoundedRectRadii::new(0.0, 0.0, 0.0, 0.0))
-            }
-            Clip::Rounded {
-                x0,
-                y0,
-                x1,
-                y1,
-                top_left,
-                top_right,
-                bottom_right,
-                bottom_left,
-            } => {
-                let s = RoundedRectRadii {
-                    top_left,
-                    top_right,
-                    bottom_right,
-                    bottom_left,
-                };
-                r.eq(Rect { x0, y0, x1, y1 }) & q.eq(s)
-            }
-        }
-    }
-
-    fn is_none(self) -> bool
-        ensures { λ b. ⌜ b ≡ isNone self ⌝ }
-    {
-        match self {
-            Clip::None => true,
             Clip::Square {
                 x0: _,
                 y0: _,
                 x1: _,
                 y1: _,
-            } => false,
-            Clip::Rounded {
-                x0: _,
-                y0: _,
-                x1: _,
-                y1: _,
-                top_left: _,
-                top_right: _,
-                bottom_right: _,
-                bottom_left: _,
-            } => false,
+            } => RoundedRectRadii::new(0.0, 0.0, 0.0, 0.0),
+            Clip::None => RoundedRectRadii::new(0.0, 0.0, 0.0, 0.0),
         }
+    }
+
+    // The constructor, RoundedRect::from_rect: insert and the clip setter put every clip through it.
+    pub fn construct(self) -> Clip
+        ensures { λ c. ⌜ c ≡ constructed self ⌝ }
+    {
+        let ClipRect::Some(given) = self.rect() else {
+            return Clip::None;
+        };
+        let r = given.abs();
+        shape(r, self.radii().fit(r))
+    }
+
+    // No clip leaves every point inside.
+    pub fn contains(self, p: Point) -> bool
+        ensures { λ b. ⌜ b ≡ inside self p ⌝ }
+    {
+        let ClipRect::Some(r) = self.rect() else {
+            return true;
+        };
+        winding(r, self.radii(), p)
     }
 
     // Equality as numbers.
     pub fn eq(self, other: Clip) -> bool
         ensures { λ b. ⌜ b ≡ clipEq self other ⌝ }
     {
-        match self {
-            Clip::None => other.is_none(),
-            Clip::Square { x0, y0, x1, y1 } => {
-                other.has_shape(
-                    Rect { x0, y0, x1, y1 },
-                    RoundedRectRadii::new(0.0, 0.0, 0.0, 0.0),
-                )
-            }
-            Clip::Rounded {
-                x0,
-                y0,
-                x1,
-                y1,
-                top_left,
-                top_right,
-                bottom_right,
-                bottom_left,
-            } => {
-                let q = RoundedRectRadii {
-                    top_left,
-                    top_right,
-                    bottom_right,
-                    bottom_left,
-                };
-                other.has_shape(Rect { x0, y0, x1, y1 }, q)
-            }
-        }
+        self.rect().eq(other.rect()) & self.radii().eq(other.radii())
     }
 
     pub fn is_finite(self) -> bool
         ensures { λ b. ⌜ b ≡ finiteClip self ⌝ }
     {
-        match self {
-            Clip::None => true,
-            Clip::Square { x0, y0, x1, y1 } => Rect { x0, y0, x1, y1 }.is_finite(),
-            Clip::Rounded {
-                x0,
-                y0,
-                x1,
-                y1,
-                top_left,
-                top_right,
-                bottom_right,
-                bottom_left,
-            } => {
-                let q = RoundedRectRadii {
-                    top_left,
-                    top_right,
-                    bottom_right,
-                    bottom_left,
-                };
-                Rect { x0, y0, x1, y1 }.is_finite() & q.is_finite()
-            }
-        }
+        self.rect().is_finite() & self.radii().is_finite()
     }
 }

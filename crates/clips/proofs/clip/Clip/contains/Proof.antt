@@ -1,49 +1,39 @@
-use lib.Ieee.{ofBits, ofFields, odd}
 use borrow.Author.Needs.{needs}
 use Rattle.clips.specs.Clips.{inside}
 use Rattle.clips.proofs.clip.Clip.contains.Statement.{statement}
 use Rattle.clips.proofs.clip.Clip.contains.Tie as tie
 
+rect-requires : tie.Need-rect-requires
+rect-requires c κs = search needs
+
+enum-known-r : tie.Need-enum-known-r
+enum-known-r c = search needs
+
 enum-told : tie.Need-enum-told
 enum-told c = search needs
 
-enum-known-self : tie.Need-enum-known-self
-enum-known-self c = search needs
+returns : tie.Need-returns
+unfolding inside
+returns c = rw (inside, ← c .before .before .rect .ensures, c .enum-told .given .1)
 
-new-requires : tie.Need-new-requires
-new-requires c κs = search needs
+radii-requires : tie.Need-radii-requires
+radii-requires c κs = search needs
 
 winding-requires : tie.Need-winding-requires
 winding-requires c κs = search needs
 
-enum-known-self-2 : tie.Need-enum-known-self-2
-enum-known-self-2 c = search needs
-
-winding-requires-2 : tie.Need-winding-requires-2
-winding-requires-2 c κs = search needs
-
-returns : tie.Need-returns
-unfolding inside ofBits ofFields odd
-returns c = search needs
-
 returns-2 : tie.Need-returns-2
-unfolding inside ofBits ofFields odd
-returns-2 c = rw (c .before .before .before .self .given .1, c .winding .ensures, c .before .new .ensures)
-
-returns-3 : tie.Need-returns-3
-unfolding inside ofBits ofFields odd
-returns-3 c = rw (c .before .before .self2 .given .1, c .winding2 .ensures)
+unfolding inside
+returns-2 c = rw (inside, ← c .before .before .before .before .before .rect .ensures, c .before .before .before .r .given .1, c .winding .ensures, c .before .radii .ensures)
 
 pub contains-spec : {M : Type 1} → statement M
 contains-spec =
     tie.close
     (tie.spec
+    rect-requires
+    enum-known-r
     enum-told
-    enum-known-self
-    new-requires
-    winding-requires
-    enum-known-self-2
-    winding-requires-2
     returns
-    returns-2
-    returns-3)
+    radii-requires
+    winding-requires
+    returns-2)
