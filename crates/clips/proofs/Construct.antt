@@ -16,7 +16,7 @@ use Rattle.clips.specs.declared.clip.Clip.{Clip}
 use Rattle.clips.specs.declared.clip.Clip.the-variants as is
 use Rattle.clips.specs.declared.clip.ClipRect.{ClipRect}
 use Rattle.clips.specs.declared.clip.ClipRect.the-variants as of
-use Rattle.clips.specs.Clips.{radii, all, cap, fitted, square, rounded, shaped, constructed, clipRect, clipRadii, noRadii, constructedOf, finiteClipRect, finiteClip}
+use Rattle.clips.specs.Clips.{radii, all, cap, fitted, square, rounded, shaped, constructed, clipRect, clipRadii, noRadii, constructedOf, finiteClipRect, finiteClip, zeroRadii, inOrder}
 
 -- ---- the cap and the radii
 
@@ -45,12 +45,6 @@ module _ (r : Rect) (q : RoundedRectRadii) (C : magnitude (cap r) ≡ cap r) whe
 
 -- ---- the constructor
 
--- a rounded clip all of whose radii are 0
-abbrev pub flat : Clip → Bool
-flat is.None = false
-flat (is.Square x0 y0 x1 y1) = false
-flat (is.Rounded x0 y0 x1 y1 tl tr br bl) = all (λ x. eq x const.zero) (radii tl tr br bl)
-
 -- no radius stays none under any cap, so a square stays square
 square-again : (r : Rect) → magnitude (cap r) ≡ cap r → shaped r (fitted r noRadii) ≡ square r
 unfolding fitted shaped eq
@@ -64,8 +58,8 @@ module _ (r : Rect) (q : RoundedRectRadii) where
       (λ (h : all (λ x. eq x const.zero) q ≡ true). f (rw (shaped, h)))
       (λ (h : all (λ x. eq x const.zero) q ≡ false). g (rw (shaped, h)) h)
 
-  pub shaped-flat : flat (shaped r q) ≡ false
-  shaped-flat = shaped-cases (λ (e : shaped r q ≡ square r). rw e) (λ (e : shaped r q ≡ rounded r q) (h : all (λ x. eq x const.zero) q ≡ false). rw e h)
+  pub shaped-zero-radii : zeroRadii (shaped r q) ≡ false
+  shaped-zero-radii = shaped-cases (λ (e : shaped r q ≡ square r). rw e) (λ (e : shaped r q ≡ rounded r q) (h : all (λ x. eq x const.zero) q ≡ false). rw e h)
 
   pub shaped-rect : clipRect (shaped r q) ≡ of.Some r
   unfolding clipRect
@@ -93,13 +87,13 @@ unfolding constructed
 construct-again c = again (clipRect c) (clipRadii c)
 
 -- never a rounded clip with four zero radii
-never-flat : (g : ClipRect) (q : RoundedRectRadii) → flat (constructedOf g q) ≡ false
-never-flat of.None q = refl
-never-flat (of.Some g) q = shaped-flat (ordered g) (fitted (ordered g) q)
+never-zero-radii : (g : ClipRect) (q : RoundedRectRadii) → zeroRadii (constructedOf g q) ≡ false
+never-zero-radii of.None q = refl
+never-zero-radii (of.Some g) q = shaped-zero-radii (ordered g) (fitted (ordered g) q)
 
-pub construct-flat : (c : Clip) → flat (constructed c) ≡ false
+pub construct-zero-radii : (c : Clip) → zeroRadii (constructed c) ≡ false
 unfolding constructed
-construct-flat c = never-flat (clipRect c) (clipRadii c)
+construct-zero-radii c = never-zero-radii (clipRect c) (clipRadii c)
 
 -- finite values stay finite
 stays-finite : (g : ClipRect) (q : RoundedRectRadii) → finiteClipRect g ≡ true → all finite q ≡ true → finiteClip (constructedOf g q) ≡ true
@@ -114,11 +108,7 @@ construct-finite c f =
     stays-finite (clipRect c) (clipRadii c) (and-left (finiteClipRect (clipRect c)) (all finite (clipRadii c)) f)
     (and-right (finiteClipRect (clipRect c)) (all finite (clipRadii c)) f)
 
--- a clip's rectangle, where there is one, has its corners in order
-abbrev pub inOrder : ClipRect → Bool
-inOrder of.None = true
-inOrder (of.Some r) = le (r .x0) (r .x1) && le (r .y0) (r .y1)
-
+-- the corners are in order
 in-order : (g : ClipRect) (q : RoundedRectRadii) → finiteClipRect g ≡ true → inOrder (clipRect (constructedOf g q)) ≡ true
 unfolding finiteClipRect clipRect
 in-order of.None q f = refl

@@ -1,2 +1,4 @@
 pub mod Construct
 pub mod Equality
+mod Quadrant
+mod Examples

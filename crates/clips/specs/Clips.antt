@@ -1,7 +1,8 @@
 -- Clips (document 01, module 2): none, square, or rounded with four radii, in the order top left, top right, bottom right, bottom
--- left. A clip is read by its rectangle and its radii: "square means all radii 0".
-use mathlib.Core.Bool.{Bool, true, false, _&&_, cond}
-use lib.Ieee.{Float, lt, le, eq}
+-- left. A clip is read by its rectangle and its radii: "square means all radii 0". Below, `is.` marks the cases of `Clip`, and `of.` those of
+-- `ClipRect`, a clip's rectangle if there is a clip.
+use mathlib.Core.Bool.{Bool, true, false, _&&_, _||_, cond}
+use lib.Ieee.{Float, isNan, lt, le, eq}
 use lib.Ieee.Scale.{finite}
 use Rattle.geometry.specs.declared.point.Point.{Point}
 use Rattle.geometry.specs.declared.rect.Rect.{Rect}
@@ -53,6 +54,7 @@ clipRadii (is.Rounded x0 y0 x1 y1 tl tr br bl) = radii tl tr br bl
 abbrev pub cap : Rect → Float
 cap r = minimum (width r) (height r) ⊘ two
 
+-- a NaN radius becomes the cap, and under a NaN cap no radius is capped
 unfoldable pub fitted : Rect → RoundedRectRadii → RoundedRectRadii
 fitted r q = each (λ x. minimum (magnitude x) (cap r)) q
 
@@ -77,15 +79,14 @@ constructed c = constructedOf (clipRect c) (clipRadii c)
 abbrev pub centre : Rect → Point
 centre r = record { x = half ⊗ (r .x0 ⊕ r .x1); y = half ⊗ (r .y0 ⊕ r .y1) }
 
--- The radius of the offset's quadrant: a zero offset counts as right or bottom; with any NaN it is 0.
+-- The radius of the quadrant that the offset lies in: a zero offset, of either sign, counts as right or bottom; with any NaN it is 0.
 unfoldable pub quadrant : RoundedRectRadii → Float → Float → Float
 quadrant q dx dy =
-    cond (lt dx zero && lt dy zero) (q .«top_left»)
-    (cond (le zero dx && lt dy zero) (q .«top_right»)
-    (cond (le zero dx && le zero dy) (q .«bottom_right»)
-    (cond (lt dx zero && le zero dy) (q .«bottom_left») zero)))
+    cond (isNan dx || isNan dy) zero
+    (cond (lt dx zero) (cond (lt dy zero) (q .«top_left») (q .«bottom_left»)) (cond (lt dy zero) (q .«top_right») (q .«bottom_right»)))
 
--- how far an offset d reaches past the straight part of a side of this length, whose corners have the radius R; never below 0
+-- How far an offset d reaches past the straight part of a side of this length, whose corners have the radius R: never below 0, and 0 for
+-- a NaN offset, since a maximum with a NaN gives the other operand. So a point whose offsets are both NaN is inside every clip.
 unfoldable pub excess : Float → Float → Float → Float
 excess d side R = maximum (magnitude d ⊖ maximum (side ⊘ two ⊖ R) zero) zero
 
@@ -128,3 +129,16 @@ finiteClipRect (of.Some r) = finiteRect r
 
 unfoldable pub finiteClip : Clip → Bool
 finiteClip c = finiteClipRect (clipRect c) && all finite (clipRadii c)
+
+-- ---- what laws say of a constructed clip
+
+-- a rounded clip all of whose radii are 0
+abbrev pub zeroRadii : Clip → Bool
+zeroRadii is.None = false
+zeroRadii (is.Square x0 y0 x1 y1) = false
+zeroRadii (is.Rounded x0 y0 x1 y1 tl tr br bl) = all (λ x. eq x zero) (radii tl tr br bl)
+
+-- the rectangle, where there is one, has its corners in order
+abbrev pub inOrder : ClipRect → Bool
+inOrder of.None = true
+inOrder (of.Some r) = le (r .x0) (r .x1) && le (r .y0) (r .y1)

@@ -58,22 +58,22 @@ fn shape(r: Rect, q: RoundedRectRadii) -> Clip
 }
 
 // How far the offset `d` from the centre reaches past the straight part of a side.
-fn past(d: f64, side: f64, radius: f64) -> f64
+fn excess(d: f64, side: f64, radius: f64) -> f64
     ensures { λ r. ⌜ r ≡ excess d side radius ⌝ }
 {
     let straight = max(side / 2.0 - radius, 0.0);
     max(abs(d) - straight, 0.0)
 }
 
-// RoundedRect::winding: measured from the centre, with the radius of the point's quadrant.
+// RoundedRect::winding, as whether it is not 0: measured from the centre, with the radius of the point's quadrant.
 fn winding(r: Rect, q: RoundedRectRadii, p: Point) -> bool
     ensures { λ b. ⌜ b ≡ insideRounded r q p ⌝ }
 {
     let dx = p.x - 0.5 * (r.x0 + r.x1);
     let dy = p.y - 0.5 * (r.y0 + r.y1);
     let radius = q.quadrant(dx, dy);
-    let px = past(dx, r.width(), radius);
-    let py = past(dy, r.height(), radius);
+    let px = excess(dx, r.width(), radius);
+    let py = excess(dy, r.height(), radius);
     px * px + py * py <= radius * radius
 }
 

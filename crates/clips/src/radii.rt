@@ -29,7 +29,7 @@ impl RoundedRectRadii {
         }
     }
 
-    // Made non-negative, and each capped at half the shorter side of `rect`.
+    // Each radius the minimum of its absolute value and half the shorter side of `rect`, whose corners the constructor has ordered.
     pub fn fit(self, rect: Rect) -> Self
         ensures { λ r. ⌜ r ≡ fitted rect self ⌝ }
     {

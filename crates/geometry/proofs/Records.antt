@@ -1,5 +1,5 @@
--- Equality as numbers of rectangles and insets: reflexive on finite values, symmetric, and equal values are alike to every
--- test by edges. And what the area test tells.
+-- Equality as numbers of rectangles and insets: reflexive on finite values, symmetric, and alike to equality with a third, to
+-- containment of a point and to the test for zero. And what the area test tells.
 use mathlib.Core.Path.{_≡_}
 use mathlib.Core.Bool.{true}
 use lib.Ieee.{lt, eq}
@@ -41,13 +41,24 @@ module _ (r s : Rect) where
         rw
         (le-alike (r .x0) (s .x0) (p .x) (E .first), lt-alike-right (r .x1) (s .x1) (p .x) (E .third), le-alike (r .y0) (s .y0) (p .y) (E .second), lt-alike-right (r .y1) (s .y1) (p .y) (E .fourth))
 
--- what the area test accepts has each low edge below its high edge
-pub area-tells : (r : Rect) → hasArea r ≡ true → (lt (r .x0) (r .x1) ≡ true) × (lt (r .y0) (r .y1) ≡ true)
+-- what the area test accepts: the width and the height exceed 0, and each low edge is below its high edge
+pub record Wide (r : Rect) : Type 0 where
+  pub width-above : lt const.zero (width r) ≡ true
+  pub height-above : lt const.zero (height r) ≡ true
+  pub x-rises : lt (r .x0) (r .x1) ≡ true
+  pub y-rises : lt (r .y0) (r .y1) ≡ true
+
+pub area-tells : (r : Rect) → hasArea r ≡ true → Wide r
 unfolding hasArea
 area-tells r h =
-    let w = lt const.zero (width r) in
-    let t = lt const.zero (height r) in
-    (above-tells (r .x0) (r .x1) (and-left w t h), above-tells (r .y0) (r .y1) (and-right w t h))
+    let w = and-left (lt const.zero (width r)) (lt const.zero (height r)) h in
+    let t = and-right (lt const.zero (width r)) (lt const.zero (height r)) h in
+    record {
+      width-above = w;
+      height-above = t;
+      x-rises = above-tells (r .x0) (r .x1) w;
+      y-rises = above-tells (r .y0) (r .y1) t
+    }
 
 -- ---- insets
 

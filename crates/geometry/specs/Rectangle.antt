@@ -22,11 +22,12 @@ height r = r .y1 ⊖ r .y0
 unfoldable pub hasArea : Rect → Bool
 hasArea r = lt zero (width r) && lt zero (height r)
 
--- corners put in order
+-- corners put in order: edges (+0, −0) become (+0, +0), and (NaN, 5) becomes (5, 5)
 unfoldable pub ordered : Rect → Rect
 ordered r = rect (minimum (r .x0) (r .x1)) (minimum (r .y0) (r .y1)) (maximum (r .x0) (r .x1)) (maximum (r .y0) (r .y1))
 
--- intersection: the larger low edges, the smaller high edges, each high edge then the maximum of itself and its low edge
+-- intersection: the larger low edges, the smaller high edges, each high edge then the maximum of itself and its low edge; a NaN edge
+-- gives way to the other's
 abbrev pub overlap : Rect → Rect → Rect
 overlap r s = rect (maximum (r .x0) (s .x0)) (maximum (r .y0) (s .y0)) (minimum (r .x1) (s .x1)) (minimum (r .y1) (s .y1))
 

@@ -20,7 +20,7 @@ impl Insets {
             & ((self.x1 == other.x1) & (self.y1 == other.y1))
     }
 
-    // Equality with Insets::ZERO as numbers.
+    // All insets equal 0 as numbers.
     pub fn is_zero(self) -> bool
         ensures { λ r. ⌜ r ≡ noInsets self ⌝ }
     {

@@ -1,4 +1,4 @@
--- Laws of single numbers: what the tests of number.rt tell, and the minimum, the maximum and the absolute value by them.
+-- Laws of single numbers: what the tests of the code tell, and the minimum, the maximum and the absolute value by them.
 use mathlib.Core.Path.{_≡_, refl, sym}
 use mathlib.Core.Logic.{inl, inr}
 use mathlib.Core.Bool.{Bool, true, false, _&&_, cond}

@@ -1,7 +1,7 @@
 -- Equality as numbers and the order: equal numbers compare alike with every third number, so no test by edges tells them apart.
 use mathlib.Core.Path.{_≡_, refl, sym, ap, _∙_}
 use mathlib.Core.Logic.{_⊎_, inl, inr}
-use mathlib.Core.Bool.{Bool, true, false, _&&_, _||_, Bool·beq}
+use mathlib.Core.Bool.{Bool, true, false, not, _&&_, _||_, Bool·beq}
 use Prim.Native.Nat.{ℕ, _+_, _*_, _<_}
 use native.Mathlib.Nat.{mul-right-comm, zero-mul, zero-add, add-comm, add-mul, mul-lt-mul-of-pos-right, mul-le-mul-right, lt-of-mul-lt-mul-right, le-of-mul-le-mul-right, eq-of-mul-eq-mul-right}
 use native.Mathlib.Omega.{arith}
@@ -62,6 +62,78 @@ lt-le x y h = rw (le, h)
 pub le-self : (x : Float) → isNan x ≡ false → le x x ≡ true
 unfolding le
 le-self x n = rw (le, eq-refl x n) (or-true (lt x x))
+
+-- of two numbers, one is at most the other where that is not below it
+trichotomy : (a b : ℕ) → ltb a b || (eqb a b && true) ≡ not (ltb b a)
+trichotomy a b =
+    split (ltb b a)
+    (λ (h : ltb b a ≡ true). let l = ltb-true b a h in rw (h, le-ltb a b (omega arith), ne-eqb a b (λ (e : a ≡ b). omega arith)))
+    (λ (h : ltb b a ≡ false).
+    split (ltb a b) (λ (k : ltb a b ≡ true). rw (h, k))
+    (λ (k : ltb a b ≡ false). rw (h, k, eq-eqb a b (omega (arith, ltb-false b a h, ltb-false a b k)))))
+
+-- a negative size is 0, where the two are equal
+opposite : (a b : ℕ) → eqb a b && eqb a 0 ≡ not (ltb 0 (b + a))
+opposite a b =
+    split (ltb 0 (b + a))
+    (λ (h : ltb 0 (b + a) ≡ true).
+    let l = ltb-true 0 (b + a) h in
+    split (eqb a 0)
+    (λ (k : eqb a 0 ≡ true). rw (h, k, ne-eqb a b (λ (e : a ≡ b). omega (arith, eqb-true a 0 k))))
+    (λ (k : eqb a 0 ≡ false). rw (h, k) (and-false (eqb a b))))
+    (λ (h : ltb 0 (b + a) ≡ false).
+    let l = ltb-false 0 (b + a) h in
+    rw (h, eq-eqb a b (omega arith), eq-eqb a 0 (omega arith)))
+  where
+    and-false : (c : Bool) → c && false ≡ false
+    and-false true = refl
+    and-false false = refl
+
+at-most : (s t : Bool) (a b : ℕ) → below s a t b || level s a t b ≡ not (below t b s a)
+at-most false false a b = trichotomy a b
+at-most false true a b = opposite a b
+at-most true false a b =
+    split (ltb 0 (a + b)) (λ (h : ltb 0 (a + b) ≡ true). rw h)
+    (λ (h : ltb 0 (a + b) ≡ false).
+    let l = ltb-false 0 (a + b) h in
+    rw (h, eq-eqb a b (omega arith), eq-eqb a 0 (omega arith)))
+at-most true true a b =
+    split (eqb a b)
+    (λ (h : eqb a b ≡ true). let e = eqb-true a b h in rw (h, le-ltb b a (omega arith), le-ltb a b (omega arith)))
+    (λ (h : eqb a b ≡ false).
+    split (ltb b a)
+    (λ (k : ltb b a ≡ true). let l = ltb-true b a k in rw (h, k, le-ltb a b (omega arith)))
+    (λ (k : ltb b a ≡ false). rw (h, k, lt-ltb a b (omega (arith, ltb-false b a k, eqb-false a b h)))))
+
+pub le-not-lt : (x y : Float) → isNan x ≡ false → isNan y ≡ false → le x y ≡ not (lt y x)
+unfolding isNan le lt eq
+le-not-lt nan y n k = clash n
+le-not-lt (inf s) nan n k = clash k
+le-not-lt (inf true) (inf true) n k = refl
+le-not-lt (inf true) (inf false) n k = refl
+le-not-lt (inf false) (inf true) n k = refl
+le-not-lt (inf false) (inf false) n k = refl
+le-not-lt (inf true) (fin t m d) n k = refl
+le-not-lt (inf false) (fin t m d) n k = refl
+le-not-lt (fin s m e) nan n k = clash k
+le-not-lt (fin s m e) (inf true) n k = refl
+le-not-lt (fin s m e) (inf false) n k = refl
+le-not-lt (fin s m e) (fin t j d) n k = at-most s t (m * up e * down d) (j * up d * down e)
+
+-- a NaN is at most nothing, nothing is at most it, and nothing is below it or above it
+pub nan-lt : (x y : Float) → isNan x ≡ true → lt x y ≡ false
+unfolding isNan lt
+nan-lt nan y n = refl
+nan-lt (inf s) y n = clash (sym n)
+nan-lt (fin s m e) y n = clash (sym n)
+
+pub le-nan : (x y : Float) → isNan y ≡ true → le x y ≡ false
+unfolding isNan le lt eq
+le-nan nan nan n = refl
+le-nan (inf s) nan n = refl
+le-nan (fin s m e) nan n = refl
+le-nan x (inf t) n = clash (sym n)
+le-nan x (fin t m d) n = clash (sym n)
 
 -- ---- comparisons of natural numbers, each side scaled
 

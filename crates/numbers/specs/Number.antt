@@ -1,4 +1,5 @@
--- Minimum, maximum, absolute value and equality of f64. (Finite is lib.Ieee.Scale's `finite`: neither a NaN nor an infinity.)
+-- Minimum, maximum and absolute value of f64. Finite is lib.Ieee.Scale's `finite`: neither a NaN nor an infinity. Equality as numbers is
+-- lib.Ieee's `eq`: −0 equals +0, and a NaN equals nothing.
 use mathlib.Core.Bool.{false, cond}
 use lib.Ieee.{Float, nan, inf, fin, isNan, lt}
 

@@ -1,6 +1,6 @@
 -- Arithmetic of f64. Each symbol in a circle is one operation of IEEE 754's binary64, rounded once, to nearest, a tie to even.
--- The definitions of this crate are written with them in document 01's order of operations: ⊗ binds tighter than ⊕ and ⊖, and
--- each groups to the left. No law of real algebra holds of them, and nothing is fused.
+-- The definitions of geometry, transforms and clips are written with them in document 01's order of operations: ⊗ and ⊘ bind tighter
+-- than ⊕ and ⊖, and each groups to the left. No law of real algebra is assumed of them, and nothing is fused.
 use mathlib.Core.Bool.{false}
 use lib.Ieee.{Float, fin, binary64, add, sub, mul, div}
 use lib.IntN.{pos, negsuc}

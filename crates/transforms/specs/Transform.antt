@@ -15,6 +15,7 @@ identity = record { a = one; b = zero; c = zero; d = one; e = zero; f = zero }
 unfoldable pub mapped : Affine → Point → Point
 mapped t p = record { x = t .a ⊗ p .x ⊕ t .c ⊗ p .y ⊕ t .e; y = t .b ⊗ p .x ⊕ t .d ⊗ p .y ⊕ t .f }
 
+-- P·Q: Q is applied first
 unfoldable pub product : Affine → Affine → Affine
 product P Q =
     record {
@@ -44,9 +45,10 @@ inverseBy t r =
 unfoldable pub inverse : Affine → Affine
 inverse t = inverseBy t (reciprocalDeterminant t)
 
--- `transform_rect_bbox`: the image's box, from the least and the greatest of each edge's product
-unfoldable pub bboxOf : Affine → Rect → Rect
-bboxOf t r =
+-- `transform_rect_bbox`, operation by operation: each axis from the minimum, or the maximum, of either edge's product, the shift last.
+-- A NaN product leaves the other product as both; of two equal zeros the first keeps its sign.
+unfoldable pub transformRectBbox : Affine → Rect → Rect
+transformRectBbox t r =
     rect
     (minimum (t .a ⊗ r .x0) (t .a ⊗ r .x1) ⊕ minimum (t .c ⊗ r .y0) (t .c ⊗ r .y1) ⊕ t .e)
     (minimum (t .b ⊗ r .x0) (t .b ⊗ r .x1) ⊕ minimum (t .d ⊗ r .y0) (t .d ⊗ r .y1) ⊕ t .f)

@@ -1,6 +1,6 @@
-// The box tree's util.rs.
+// The box tree's util.rs, but for `rect_to_aabb`, which stands with the index's boxes.
 ghost use mathlib.Core.Path.{_≡_};
-ghost use Rattle.transforms.specs.Transform.{bboxOf};
+ghost use Rattle.transforms.specs.Transform.{transformRectBbox};
 use crate::affine::Affine;
 use geometry::rect::Rect;
 use numbers::max;
@@ -8,7 +8,7 @@ use numbers::min;
 
 // The axis-aligned box of the image of `rect`.
 pub fn transform_rect_bbox(affine: Affine, rect: Rect) -> Rect
-    ensures { λ r. ⌜ r ≡ bboxOf affine rect ⌝ }
+    ensures { λ r. ⌜ r ≡ transformRectBbox affine rect ⌝ }
 {
     let a = affine.a;
     let b = affine.b;

@@ -10,18 +10,18 @@ quadrant-requires c κs = search needs
 width-requires : tie.Need-width-requires
 width-requires c κs = search needs
 
-past-requires : tie.Need-past-requires
-past-requires c κs = search needs
+excess-requires : tie.Need-excess-requires
+excess-requires c κs = search needs
 
 height-requires : tie.Need-height-requires
 height-requires c κs = search needs
 
-past-requires-2 : tie.Need-past-requires-2
-past-requires-2 c κs = search needs
+excess-requires-2 : tie.Need-excess-requires-2
+excess-requires-2 c κs = search needs
 
 returns : tie.Need-returns
 unfolding insideRounded ofBits ofFields odd
-returns c = rw (c .past2 .ensures, c .before .height .ensures, c .before .before .past .ensures, c .before .before .before .width .ensures, c .before .before .before .before .quadrant .ensures)
+returns c = rw (c .excess2 .ensures, c .before .height .ensures, c .before .before .excess .ensures, c .before .before .before .width .ensures, c .before .before .before .before .quadrant .ensures)
 
 pub winding-spec : {M : Type 1} → statement M
 winding-spec =
@@ -29,7 +29,7 @@ winding-spec =
     (tie.spec
     quadrant-requires
     width-requires
-    past-requires
+    excess-requires
     height-requires
-    past-requires-2
+    excess-requires-2
     returns)

@@ -1,5 +1,5 @@
 use borrow.Author.Needs.{needs}
-use Rattle.transforms.specs.Transform.{bboxOf}
+use Rattle.transforms.specs.Transform.{transformRectBbox}
 use Rattle.transforms.proofs.util.transform_rect_bbox.Statement.{statement}
 use Rattle.transforms.proofs.util.transform_rect_bbox.Tie as tie
 
@@ -28,7 +28,7 @@ max-requires-4 : tie.Need-max-requires-4
 max-requires-4 c κs = search needs
 
 returns : tie.Need-returns
-unfolding bboxOf
+unfolding transformRectBbox
 returns c =
     let c1 = c .before .before .before .before in
     let c2 = c1 .before .before .before in

@@ -1,8 +1,8 @@
 use lib.Ieee.{ofBits, ofFields, odd}
 use borrow.Author.Needs.{needs}
 use Rattle.clips.specs.Clips.{excess}
-use Rattle.clips.proofs.clip.past.Statement.{statement}
-use Rattle.clips.proofs.clip.past.Tie as tie
+use Rattle.clips.proofs.clip.excess.Statement.{statement}
+use Rattle.clips.proofs.clip.excess.Tie as tie
 
 max-requires : tie.Need-max-requires
 max-requires c κs = search needs
@@ -17,5 +17,5 @@ returns : tie.Need-returns
 unfolding excess ofBits ofFields odd
 returns c = rw (c .max2 .ensures, c .before .abs .ensures, c .before .before .max .ensures)
 
-pub past-spec : {M : Type 1} → statement M
-past-spec = tie.close (tie.spec max-requires abs-requires max-requires-2 returns)
+pub excess-spec : {M : Type 1} → statement M
+excess-spec = tie.close (tie.spec max-requires abs-requires max-requires-2 returns)
