@@ -116,9 +116,9 @@ in-order (of.Some g) q f =
     let o = ordered-le g f in
     rw (shaped-rect (ordered g) (fitted (ordered g) q), o .0, o .1)
 
-pub construct-ordered : (c : Clip) → finiteClip c ≡ true → inOrder (clipRect (constructed c)) ≡ true
-unfolding constructed finiteClip
-construct-ordered c f = in-order (clipRect c) (clipRadii c) (and-left (finiteClipRect (clipRect c)) (all finite (clipRadii c)) f)
+pub construct-ordered : (c : Clip) → finiteClipRect (clipRect c) ≡ true → inOrder (clipRect (constructed c)) ≡ true
+unfolding constructed
+construct-ordered c f = in-order (clipRect c) (clipRadii c) f
 
 -- a square clip comes out square, with its corners in order
 pub construct-square : (x0 y0 x1 y1 : Float) → constructed (is.Square x0 y0 x1 y1) ≡ square (ordered (rect x0 y0 x1 y1))

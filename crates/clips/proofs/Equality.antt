@@ -11,19 +11,19 @@ use Rattle.clips.specs.declared.clip.ClipRect.{ClipRect}
 use Rattle.clips.specs.declared.clip.ClipRect.the-variants as of
 use Rattle.clips.specs.Clips.{all, radiiEq, clipRect, clipRadii, clipRectEq, clipEq, finiteClipRect, finiteClip}
 
-radii-refl : (q : RoundedRectRadii) → all finite q ≡ true → radiiEq q q ≡ true
+pub radii-refl : (q : RoundedRectRadii) → all finite q ≡ true → radiiEq q q ≡ true
 radii-refl q f = four-refl (q .«top_left») (q .«top_right») (q .«bottom_right») (q .«bottom_left») f
 
-radii-sym : (q s : RoundedRectRadii) → radiiEq q s ≡ radiiEq s q
+pub radii-sym : (q s : RoundedRectRadii) → radiiEq q s ≡ radiiEq s q
 radii-sym q s =
     four-sym (q .«top_left») (q .«top_right») (q .«bottom_right») (q .«bottom_left») (s .«top_left») (s .«top_right») (s .«bottom_right») (s .«bottom_left»)
 
-clip-rect-refl : (g : ClipRect) → finiteClipRect g ≡ true → clipRectEq g g ≡ true
+pub clip-rect-refl : (g : ClipRect) → finiteClipRect g ≡ true → clipRectEq g g ≡ true
 unfolding clipRectEq finiteClipRect
 clip-rect-refl of.None f = refl
 clip-rect-refl (of.Some r) f = rect-refl r f
 
-clip-rect-sym : (g h : ClipRect) → clipRectEq g h ≡ clipRectEq h g
+pub clip-rect-sym : (g h : ClipRect) → clipRectEq g h ≡ clipRectEq h g
 unfolding clipRectEq
 clip-rect-sym of.None of.None = refl
 clip-rect-sym of.None (of.Some s) = refl

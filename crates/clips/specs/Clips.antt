@@ -74,7 +74,7 @@ constructedOf (of.Some r) q = shaped (ordered r) (fitted (ordered r) q)
 unfoldable pub constructed : Clip → Clip
 constructed c = constructedOf (clipRect c) (clipRadii c)
 
--- ---- a point inside, measured from the centre
+-- ---- a point inside, measured from the centre of the clip as it is given: the constructor comes first
 
 abbrev pub centre : Rect → Point
 centre r = record { x = half ⊗ (r .x0 ⊕ r .x1); y = half ⊗ (r .y0 ⊕ r .y1) }
@@ -110,7 +110,7 @@ insideOf (of.Some r) q p = insideRounded r q p
 unfoldable pub inside : Clip → Point → Bool
 inside c p = insideOf (clipRect c) (clipRadii c) p
 
--- ---- equality as numbers
+-- ---- equality as numbers, of what is given: (10, 10, 0, 0) is not (0, 0, 10, 10)
 
 unfoldable pub clipRectEq : ClipRect → ClipRect → Bool
 clipRectEq of.None of.None = true

@@ -57,7 +57,7 @@ area-tells r h =
       width-above = w;
       height-above = t;
       x-rises = above-tells (r .x0) (r .x1) w;
-      y-rises = above-tells (r .y0) (r .y1) t
+      y-rises = above-tells (r .y0) (r .y1) t;
     }
 
 -- ---- insets
