@@ -1,0 +1,3 @@
+pub mod Counting
+pub mod Kit
+pub mod Words

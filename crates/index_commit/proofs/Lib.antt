@@ -1,0 +1,3 @@
+pub mod Acts
+pub mod Rooms
+pub mod Loop

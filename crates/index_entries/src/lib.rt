@@ -1,0 +1,279 @@
+// Entries of the index over lent tables: understory_index's index.rs, its inner steps. The calls by value and the box tree stand on these.
+ghost use mathlib.Core.Path.{_≡_};
+ghost use mathlib.Core.Bool.{true, false, cond};
+ghost use Prim.Native.Nat.{_+_, _<_, _≤_};
+ghost use lib.ListN.{length, set, getD};
+ghost use Rattle.cells.specs.Cells.{boxAt, putBox, idAt, putId};
+ghost use Rattle.index_entries.specs.Entries as spec;
+use boxes::Aabb2D;
+use boxes::Key;
+use boxes::NodeId;
+
+// A mark, or none.
+pub enum Mark {
+    Unmarked,
+    Added,
+    Updated,
+    Removed,
+}
+
+// The box before the first update since the last commit, if there is one.
+pub enum Previous {
+    None,
+    Some(Aabb2D),
+}
+
+// An entry.
+pub struct Entry {
+    pub aabb: Aabb2D,
+    pub payload: NodeId,
+    pub mark: Mark,
+    pub prev: Previous,
+}
+
+// What a key finds.
+pub enum Found {
+    Dead,
+    Live(Entry),
+}
+
+// The generation of a slot that is used again: one higher, past 4,294,967,295 to 1, never 0.
+pub fn next_generation(generation: u32) -> u32
+    ensures { λ r. ⌜ r ≡ spec.nextGeneration generation ⌝ }
+{
+    let next = std::num::wrapping_add_u32(generation, 1);
+    if next == 0 { 1 } else { next }
+}
+
+// Inner: whether a slot stands in the queue.
+pub fn is_queued(dirty: &[u32; 512], queued: usize, x: u32) -> bool
+    requires { ⌜ (queued ≤ 512) × (length (now dirty) ≡ 512) ⌝ }
+    ensures { λ r. ⌜ r ≡ spec.stands x (now (dirty .entry)) queued ⌝ }
+{
+    let mut found = false;
+    let mut i = 0;
+    while i < queued {
+        found = found | (dirty[i] == x);
+        i += 1;
+    }
+    found
+}
+
+// Inner: the slot is put last in the queue, unless it stands there already. The queue's new length is returned.
+pub fn queue_dirty_slot(dirty: &mut [u32; 512], queued: usize, x: u32) -> usize
+    requires { ⌜ (queued ≤ 512) × (length (now dirty) ≡ 512) × (spec.stands x (now dirty) queued ≡ false → queued < 512) ⌝ }
+    ensures { λ r. ⌜ (now (dirty .exit) ≡ spec.queueWith (now (dirty .entry)) queued x) × (r ≡ spec.lengthWith (now (dirty .entry)) queued x) ⌝ }
+{
+    if is_queued(dirty, queued, x) {
+        return queued;
+    }
+    dirty[queued] = x;
+    queued + 1
+}
+
+// The mark that a number of the table stands for.
+pub fn mark_of(n: u8) -> Mark
+    ensures { λ r. ⌜ r ≡ spec.markOf n ⌝ }
+{
+    if n == 1 {
+        return Mark::Unmarked;
+    }
+    if n == 2 {
+        return Mark::Added;
+    }
+    if n == 3 {
+        return Mark::Updated;
+    }
+    Mark::Removed
+}
+
+// Inner: the previous box of a slot's entry, if there is one.
+pub fn previous_at<'a>(kept: &'a [u8; 512], prev: &'a [f64; 2048], x: usize) -> Previous
+    requires { ⌜ x < 512 ⌝ }
+    ensures { λ r. ⌜ r ≡ spec.previousAt (now (kept .entry)) (now (prev .entry)) x ⌝ }
+{
+    if kept[x] == 0 {
+        return Previous::None;
+    }
+    Previous::Some(cells::box_at(prev, x))
+}
+
+// What a key finds: a slot's entry, if the slot is not empty and the generation is the key's.
+pub fn look_up<'a>(
+    generation: &'a [u32; 512],
+    mark: &'a [u8; 512],
+    payload: &'a [u32; 1024],
+    aabb: &'a [f64; 2048],
+    kept: &'a [u8; 512],
+    prev: &'a [f64; 2048],
+    key: Key,
+) -> Found
+    ensures { λ r. ⌜ r ≡ spec.lookUp (now (generation .entry)) (now (mark .entry)) (now (payload .entry)) (now (aabb .entry)) (now (kept .entry)) (now (prev .entry)) key ⌝ }
+{
+    if key.0 >= 512 {
+        return Found::Dead;
+    }
+    let x = key.0 as usize;
+    if (mark[x] == 0) | (generation[x] != key.1) {
+        return Found::Dead;
+    }
+    Found::Live(Entry {
+        aabb: cells::box_at(aabb, x),
+        payload: cells::id_at(payload, x),
+        mark: mark_of(mark[x]),
+        prev: previous_at(kept, prev, x),
+    })
+}
+
+// The slot that an insert takes, and its generation there.
+pub struct Taken {
+    pub slot: u32,
+    pub generation: u32,
+}
+
+// Inner: the last freed slot, its generation one on; else the next unused slot, generation 1.
+pub fn next_slot<'a>(
+    generation: &'a [u32; 512],
+    free: &'a [u32; 512],
+    frees: usize,
+    used: usize,
+) -> Taken
+    requires { ⌜ (used ≤ 512) × (frees ≤ 512) × (spec.slotFor (now free) frees used < 512) ⌝ }
+    ensures { λ r. ⌜ (r .slot ≡ spec.slotFor (now (free .entry)) frees used) × (r .generation ≡ spec.generationFor (now (generation .entry)) (now (free .entry)) frees used) ⌝ }
+{
+    if frees == 0 {
+        return Taken {
+            slot: used as u32,
+            generation: 1,
+        };
+    }
+    let slot = free[frees - 1];
+    Taken {
+        slot,
+        generation: next_generation(generation[slot as usize]),
+    }
+}
+
+// Inner: stores a new entry, marked added, at a slot.
+pub fn store_entry(
+    generation: &mut [u32; 512],
+    mark: &mut [u8; 512],
+    payload: &mut [u32; 1024],
+    aabb: &mut [f64; 2048],
+    kept: &mut [u8; 512],
+    t: Taken,
+    b: Aabb2D,
+    p: NodeId,
+)
+    requires { ⌜ t .slot < 512 ⌝ }
+    ensures generations { λ _. ⌜ now (generation .exit) ≡ set (now (generation .entry)) (t .slot) (t .generation) ⌝ }
+    ensures marks { λ _. ⌜ now (mark .exit) ≡ set (now (mark .entry)) (t .slot) 2 ⌝ }
+    ensures payloads { λ _. ⌜ now (payload .exit) ≡ putId (now (payload .entry)) (t .slot) p ⌝ }
+    ensures boxes { λ _. ⌜ now (aabb .exit) ≡ putBox (now (aabb .entry)) (t .slot) b ⌝ }
+    ensures previous { λ _. ⌜ now (kept .exit) ≡ set (now (kept .entry)) (t .slot) 0 ⌝ }
+{
+    let x = t.slot as usize;
+    generation[x] = t.generation;
+    mark[x] = 2;
+    cells::put_id(payload, x, p);
+    cells::put_box(aabb, x, b);
+    kept[x] = 0;
+}
+
+// Inner: gives a slot's entry another box. An entry without a mark keeps the box it had and is queued; an added one stays added. The
+// queue's new length is returned.
+pub fn update_entry(
+    mark: &mut [u8; 512],
+    aabb: &mut [f64; 2048],
+    kept: &mut [u8; 512],
+    prev: &mut [f64; 2048],
+    dirty: &mut [u32; 512],
+    queued: usize,
+    x: u32,
+    e: Entry,
+    b: Aabb2D,
+) -> usize
+    requires { ⌜ (x < 512) × (queued ≤ 512) × (length (now dirty) ≡ 512) × (spec.stands x (now dirty) queued ≡ false → queued < 512) ⌝ }
+    ensures marks { λ _. ⌜ now (mark .exit) ≡ set (now (mark .entry)) x (spec.updatedMark (e .mark)) ⌝ }
+    ensures boxes { λ _. ⌜ now (aabb .exit) ≡ putBox (now (aabb .entry)) x b ⌝ }
+    ensures keeps { λ _. ⌜ now (kept .exit) ≡ cond (spec.unmarked (e .mark)) (set (now (kept .entry)) x 1) (now (kept .entry)) ⌝ }
+    ensures previous { λ _. ⌜ now (prev .exit) ≡ cond (spec.unmarked (e .mark)) (putBox (now (prev .entry)) x (e .aabb)) (now (prev .entry)) ⌝ }
+    ensures queues { λ _. ⌜ now (dirty .exit) ≡ cond (spec.unmarked (e .mark)) (spec.queueWith (now (dirty .entry)) queued x) (now (dirty .entry)) ⌝ }
+    ensures lengths { λ r. ⌜ r ≡ cond (spec.unmarked (e .mark)) (spec.lengthWith (now (dirty .entry)) queued x) queued ⌝ }
+{
+    let at = x as usize;
+    cells::put_box(aabb, at, b);
+    let m = e.mark;
+    match m {
+        Mark::Added => {
+            mark[at] = 2;
+            queued
+        }
+        Mark::Unmarked => {
+            let before = e.aabb;
+            cells::put_box(prev, at, before);
+            kept[at] = 1;
+            mark[at] = 3;
+            queue_dirty_slot(dirty, queued, x)
+        }
+        Mark::Updated => {
+            mark[at] = 3;
+            queued
+        }
+        Mark::Removed => {
+            mark[at] = 3; // it lives again
+            queued
+        }
+    }
+}
+
+// The lengths of the free list and of the queue.
+pub struct Lengths {
+    pub frees: usize,
+    pub queued: usize,
+}
+
+// Inner: marks a slot's entry removed; one that was only added goes at once, and its slot is freed.
+pub fn remove_entry(
+    mark: &mut [u8; 512],
+    free: &mut [u32; 512],
+    dirty: &mut [u32; 512],
+    frees: usize,
+    queued: usize,
+    x: u32,
+    m: Mark,
+) -> Lengths
+    requires { ⌜ (x < 512) × (queued ≤ 512) × (length (now dirty) ≡ 512) × (spec.stands x (now dirty) queued ≡ false → queued < 512) × (spec.added m ≡ true → frees < 512) ⌝ }
+    ensures marks { λ _. ⌜ now (mark .exit) ≡ set (now (mark .entry)) x (spec.removedMark m) ⌝ }
+    ensures frees { λ _. ⌜ now (free .exit) ≡ cond (spec.added m) (set (now (free .entry)) frees x) (now (free .entry)) ⌝ }
+    ensures queues { λ _. ⌜ now (dirty .exit) ≡ cond (spec.unmarked m) (spec.queueWith (now (dirty .entry)) queued x) (now (dirty .entry)) ⌝ }
+    ensures free_length { λ r. ⌜ r .frees ≡ cond (spec.added m) (frees + 1) frees ⌝ }
+    ensures queue_length { λ r. ⌜ r .queued ≡ cond (spec.unmarked m) (spec.lengthWith (now (dirty .entry)) queued x) queued ⌝ }
+{
+    let at = x as usize;
+    match m {
+        Mark::Added => {
+            mark[at] = 0;
+            free[frees] = x;
+            Lengths {
+                frees: frees + 1,
+                queued,
+            }
+        }
+        Mark::Unmarked => {
+            mark[at] = 4;
+            Lengths {
+                frees,
+                queued: queue_dirty_slot(dirty, queued, x),
+            }
+        }
+        Mark::Updated => {
+            mark[at] = 4;
+            Lengths { frees, queued }
+        }
+        Mark::Removed => {
+            mark[at] = 4;
+            Lengths { frees, queued }
+        }
+    }
+}
