@@ -1,3 +1,4 @@
 pub mod Acts
 pub mod Rooms
 pub mod Loop
+pub mod Keep

@@ -36,16 +36,16 @@ module _ (aabb prev : List Float) where
 -- ---- soundness, with the queue as it is
 
 -- what a slot does tells its mark
-data Does : ℕ → Act → Type 0 where
-  nothing : {m : ℕ} → Does m rests
+pub data Does : ℕ → Act → Type 0 where
+  nothing : {m : ℕ} → m < 2 → Does m rests
   add : {m : ℕ} → 2 ≤ m → Does m adds
   move : {m : ℕ} → 2 ≤ m → Does m moves
   drop : {m : ℕ} → 2 ≤ m → Does m drops
 
-does : (m : ℕ) → Does m (actOf m)
+pub does : (m : ℕ) → Does m (actOf m)
 does m =
     elim (decLt m 2) [
-      | yes l ↦ rw (act-rests m l) nothing
+      | yes l ↦ rw (act-rests m l) (nothing l)
       | no g ↦
           let b : 2 ≤ m = omega arith in
           elim (ℕ-discrete m 2) [
@@ -59,7 +59,7 @@ module _ (mark free : List ℕ) (frees : ℕ) (dirty : List ℕ) (n u : ℕ) (C 
   held b e = omega arith
 
   keep-by : (b : Aabb2D) (p : Previous) {a : Act} → Does (getD mark x 0) a → CountOf (markStep a mark x) (freeStep a free frees x) (changeOf a frees b p .frees) dirty n u
-  keep-by b p nothing = C
+  keep-by b p (nothing l) = C
   keep-by b p (add g) = settled mark free frees dirty n u C lm lf lq x h (held g)
   keep-by b p (move g) = settled mark free frees dirty n u C lm lf lq x h (held g)
   keep-by b p (drop g) = freed mark free frees dirty n u C lm lf lq x h (held g)
@@ -68,7 +68,7 @@ module _ (mark free : List ℕ) (frees : ℕ) (dirty : List ℕ) (n u : ℕ) (C 
   keep-slot b p = keep-by b p (does (getD mark x 0))
 
   room-by : {a : Act} → Does (getD mark x 0) a → a ≡ drops → frees < 512
-  room-by nothing e = let z : _≡_ {A = ℕ} 0 1 = cc in absurd (omega arith)
+  room-by (nothing l) e = let z : _≡_ {A = ℕ} 0 1 = cc in absurd (omega arith)
   room-by (add g) e = let z : _≡_ {A = ℕ} 0 1 = cc in absurd (omega arith)
   room-by (move g) e = let z : _≡_ {A = ℕ} 0 1 = cc in absurd (omega arith)
   room-by (drop g) e = free-room mark free frees dirty n u C lm x (held g) h lf
@@ -76,13 +76,13 @@ module _ (mark free : List ℕ) (frees : ℕ) (dirty : List ℕ) (n u : ℕ) (C 
   pub drop-room : actOf (getD mark x 0) ≡ drops → frees < 512
   drop-room e = room-by (does (getD mark x 0)) e
 
-mark-length : (a : Act) (mark : List ℕ) (x : ℕ) → length (markStep a mark x) ≡ length mark
+pub mark-length : (a : Act) (mark : List ℕ) (x : ℕ) → length (markStep a mark x) ≡ length mark
 mark-length rests mark x = refl
 mark-length adds mark x = length-set mark x 1
 mark-length moves mark x = length-set mark x 1
 mark-length drops mark x = length-set mark x 0
 
-free-length : (a : Act) (free : List ℕ) (frees x : ℕ) → length (freeStep a free frees x) ≡ length free
+pub free-length : (a : Act) (free : List ℕ) (frees x : ℕ) → length (freeStep a free frees x) ≡ length free
 free-length rests free frees x = refl
 free-length adds free frees x = refl
 free-length moves free frees x = refl
