@@ -28,7 +28,7 @@ module _ (mark : List ℕ) (x : ℕ) where
   off : x < length mark → getD (markStep (actOf (getD mark x 0)) mark x) x 0 < 2
   off h = off-by h (does (getD mark x 0))
 
-  other : (a : Act) (y : ℕ) → (y ≡ x → ⊥) → getD (markStep a mark x) y 0 ≡ getD mark y 0
+  pub other : (a : Act) (y : ℕ) → (y ≡ x → ⊥) → getD (markStep a mark x) y 0 ≡ getD mark y 0
   other rests y n = refl
   other adds y n = getD-set-other mark x y 1 0 n
   other moves y n = getD-set-other mark x y 1 0 n
@@ -77,7 +77,7 @@ module _ (aabb prev : List Float) (dirty : List ℕ) (n u : ℕ) (w₀ : Work) (
       subst (λ (w : Work). Turn (suc i) w) (sym e) (one-more i (at i) (omega arith) (turn i (omega arith)))
 
   -- nothing is marked at the end
-  unmarked : (y : ℕ) → getD (at n .mark) y 0 < 2
+  pub unmarked : (y : ℕ) → getD (at n .mark) y 0 < 2
   unmarked y =
       let T = turn n (omega arith) in
       elim (decLt (times y (take n dirty)) 1) [

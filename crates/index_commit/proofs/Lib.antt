@@ -2,3 +2,4 @@ pub mod Acts
 pub mod Rooms
 pub mod Loop
 pub mod Keep
+pub mod Agree

@@ -22,7 +22,7 @@ pub data Act : Type 0 where
 unfoldable pub actOf : ℕ → Act
 actOf m = cond (ltb m 2) rests (cond (eqb m 2) adds (cond (eqb m 3) moves drops))
 
--- the box that the last commit left: the previous one, or the entry's own
+-- the box that a removal shows: the previous one where there is one, else the entry's own
 unfoldable pub boxBefore : Previous → Aabb2D → Aabb2D
 boxBefore was.None b = b
 boxBefore (was.Some a) b = a

@@ -19,7 +19,7 @@ pub struct Change {
     pub new: Previous,
 }
 
-// The box that the last commit left: the previous one, or the entry's own.
+// The box that a removal shows: the previous one where there is one, else the entry's own.
 fn box_before(p: Previous, b: Aabb2D) -> Aabb2D
     ensures { λ r. ⌜ r ≡ spec.boxBefore p b ⌝ }
 {

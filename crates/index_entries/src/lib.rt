@@ -17,7 +17,7 @@ pub enum Mark {
     Removed,
 }
 
-// The box before the first update since the last commit, if there is one.
+// A box, or none: above all the box that an entry without a mark had when it was updated (`prev_aabb`).
 pub enum Previous {
     None,
     Some(Aabb2D),
@@ -71,7 +71,7 @@ pub fn queue_dirty_slot(dirty: &mut [u32; 512], queued: usize, x: u32) -> usize
     queued + 1
 }
 
-// The mark that a number of the table stands for.
+// The mark that a number of the table stands for, for a slot that is not empty.
 pub fn mark_of(n: u8) -> Mark
     ensures { λ r. ⌜ r ≡ spec.markOf n ⌝ }
 {

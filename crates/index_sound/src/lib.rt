@@ -8,7 +8,7 @@ ghost use Rattle.counting.specs.Times.{one, times, every};
 ghost use Rattle.counting.specs.Lists.{onceBelow};
 ghost use Rattle.index_sound.specs.Sound.{slotRight, soundOf};
 
-// A list of slots, counted: how often each stands in it, as far as each is below 512 and stands there one time.
+// A list of slots, counted. Where `ok` is true each is below 512 and stands in it one time, and `times` has how often each number stands.
 struct Counted {
     ok: bool,
     times: [u8; 512],

@@ -31,21 +31,21 @@ pub record Shaped (ix : Index) : Type 0 where
   pub free-whole : length (ix .free) ≡ 512
   pub dirty-whole : length (ix .dirty) ≡ 512
 
--- sound, by the test and in words
+-- the shape of the tables, and the test of soundness passed
 pub record Kept (ix : Index) : Type 0 where
   pub shaped : Shaped ix
   pub sound : soundIndex ix ≡ true
 
-abbrev Counts : Index → Type 0
+abbrev pub Counts : Index → Type 0
 Counts ix = CountOf (ix .mark) (ix .free) (ix .frees) (ix .dirty) (ix .queued) (ix .used)
 
-counts : (ix : Index) → Kept ix → Counts ix
+pub counts : (ix : Index) → Kept ix → Counts ix
 counts ix K = let S = K .shaped in count-tells (ix .mark) (ix .free) (ix .frees) (ix .dirty) (ix .queued) (ix .used) (S .mark-whole) (S .free-whole) (S .dirty-whole) .0 (K .sound)
 
 keeps : (ix : Index) → Shaped ix → Counts ix → Kept ix
 keeps ix S C = record { shaped = S; sound = count-tells (ix .mark) (ix .free) (ix .frees) (ix .dirty) (ix .queued) (ix .used) (S .mark-whole) (S .free-whole) (S .dirty-whole) .1 C }
 
-split : {A : Type 0} (b : Bool) → (b ≡ true → A) → (b ≡ false → A) → A
+pub split : {A : Type 0} (b : Bool) → (b ≡ true → A) → (b ≡ false → A) → A
 split true f g = f refl
 split false f g = g refl
 
@@ -71,6 +71,10 @@ free-length is.Added free n x = length-set free n x
 free-length is.Updated free n x = refl
 free-length is.Removed free n x = refl
 
+-- an index that is not full has a slot left
+pub room-left : (ix : Index) → full ix ≡ false → ix .frees ≡ 0 → ix .used < 512
+room-left ix F e = leb-false 512 (ix .used) (rw (eq-eqb (ix .frees) 0 e) at F)
+
 -- ---- the calls
 
 module _ (ix : Index) (K : Kept ix) where
@@ -81,10 +85,7 @@ module _ (ix : Index) (K : Kept ix) where
   insert-keeps b p F =
       keeps (insertOf ix b p)
       (record { mark-whole = length-set (ix .mark) (slotOf ix) 2 ∙ S .mark-whole; free-whole = S .free-whole; dirty-whole = queue-length (ix .dirty) (ix .queued) (slotOf ix) ∙ S .dirty-whole })
-      (keep-insert (ix .mark) (ix .free) (ix .frees) (ix .dirty) (ix .queued) (ix .used) (counts ix K) (S .mark-whole) (S .free-whole) (S .dirty-whole) room)
-    where
-      room : ix .frees ≡ 0 → ix .used < 512
-      room e = leb-false 512 (ix .used) (rw (eq-eqb (ix .frees) 0 e) at F)
+      (keep-insert (ix .mark) (ix .free) (ix .frees) (ix .dirty) (ix .queued) (ix .used) (counts ix K) (S .mark-whole) (S .free-whole) (S .dirty-whole) (room-left ix F))
 
   update-keeps : (k : Key) (b : Aabb2D) → live ix k ≡ true → Kept (updateOf ix (k .0) b)
   update-keeps k b L =
@@ -120,39 +121,39 @@ fresh-kept = record { shaped = record { mark-whole = refl; free-whole = refl; di
 -- ---- what a call leaves, by its tests
 
 module _ (ix : Index) (S : soundIndex ix ≡ true) where
-  insert-full : (b : Aabb2D) (p : NodeId) → full ix ≡ true → insertCall ix b p .index ≡ ix
+  pub insert-full : (b : Aabb2D) (p : NodeId) → full ix ≡ true → insertCall ix b p .index ≡ ix
   unfolding insertCall
   insert-full b p h = rw (insertCall, S, h)
 
-  insert-room : (b : Aabb2D) (p : NodeId) → full ix ≡ false → insertCall ix b p .index ≡ insertOf ix b p
+  pub insert-room : (b : Aabb2D) (p : NodeId) → full ix ≡ false → insertCall ix b p .index ≡ insertOf ix b p
   unfolding insertCall
   insert-room b p h = rw (insertCall, S, h)
 
-  update-live : (k : Key) (b : Aabb2D) → live ix k ≡ true → updateCall ix k b .index ≡ updateOf ix (k .0) b
+  pub update-live : (k : Key) (b : Aabb2D) → live ix k ≡ true → updateCall ix k b .index ≡ updateOf ix (k .0) b
   unfolding updateCall
   update-live k b h = rw (updateCall, S, h)
 
-  update-dead : (k : Key) (b : Aabb2D) → live ix k ≡ false → updateCall ix k b .index ≡ ix
+  pub update-dead : (k : Key) (b : Aabb2D) → live ix k ≡ false → updateCall ix k b .index ≡ ix
   unfolding updateCall
   update-dead k b h = rw (updateCall, S, h)
 
-  remove-live : (k : Key) → live ix k ≡ true → removeCall ix k .index ≡ removeOf ix (k .0)
+  pub remove-live : (k : Key) → live ix k ≡ true → removeCall ix k .index ≡ removeOf ix (k .0)
   unfolding removeCall
   remove-live k h = rw (removeCall, S, h)
 
-  remove-dead : (k : Key) → live ix k ≡ false → removeCall ix k .index ≡ ix
+  pub remove-dead : (k : Key) → live ix k ≡ false → removeCall ix k .index ≡ ix
   unfolding removeCall
   remove-dead k h = rw (removeCall, S, h)
 
-  clear-all : clearCall ix .index ≡ freshIndex
+  pub clear-all : clearCall ix .index ≡ freshIndex
   unfolding clearCall
   clear-all = rw (clearCall, S)
 
-  commit-short : (a r o n : ℕ) → short a r o n ≡ true → commitCall ix a r o n .index ≡ ix
+  pub commit-short : (a r o n : ℕ) → short a r o n ≡ true → commitCall ix a r o n .index ≡ ix
   unfolding commitCall
   commit-short a r o n h = rw (commitCall, S, h)
 
-  commit-long : (a r o n : ℕ) → short a r o n ≡ false → commitCall ix a r o n .index ≡ commitOf ix (workOf ix)
+  pub commit-long : (a r o n : ℕ) → short a r o n ≡ false → commitCall ix a r o n .index ≡ commitOf ix (workOf ix)
   unfolding commitCall
   commit-long a r o n h = rw (commitCall, S, h)
 

@@ -39,6 +39,10 @@ numberOf no.ShortRoom = 8
 numberOf no.DeadKey = 10
 numberOf no.Full = 11
 
+-- the refusal with one of these numbers; the calls below name refusals by it
+abbrev pub refusal : ℕ → Refusal
+refusal n = cond (eqb n 1) no.Unsound (cond (eqb n 8) no.ShortRoom (cond (eqb n 10) no.DeadKey no.Full))
+
 -- 1: the index is unsound
 abbrev pub soundIndex : Index → Bool
 soundIndex ix = soundOf (ix .mark) (ix .free) (ix .frees) (ix .dirty) (ix .queued) (ix .used)
@@ -47,9 +51,9 @@ soundIndex ix = soundOf (ix .mark) (ix .free) (ix .frees) (ix .dirty) (ix .queue
 abbrev pub full : Index → Bool
 full ix = eqb (ix .frees) 0 && leb 512 (ix .used)
 
--- a slot is left
-abbrev pub Room : ℕ → ℕ → Type 0
-Room frees used = frees ≡ 0 → used < 512
+-- a slot is left for an insert
+abbrev pub SlotLeft : ℕ → ℕ → Type 0
+SlotLeft frees used = frees ≡ 0 → used < 512
 
 unfoldable pub freshIndex : Index
 freshIndex =
@@ -98,8 +102,8 @@ keyOf x g = record { 0 = x; 1 = g }
 
 unfoldable pub insertCall : Index → Aabb2D → NodeId → AfterInsert
 insertCall ix b p =
-    cond (not (soundIndex ix)) (record { answer = inserts.Refused no.Unsound; index = ix })
-    (cond (full ix) (record { answer = inserts.Refused no.Full; index = ix })
+    cond (not (soundIndex ix)) (record { answer = inserts.Refused (refusal 1); index = ix })
+    (cond (full ix) (record { answer = inserts.Refused (refusal 11); index = ix })
     (record { answer = inserts.Key (keyOf (slotOf ix) (generationOf ix)); index = insertOf ix b p }))
 
 -- ---- update and remove
@@ -131,8 +135,8 @@ updateOf ix x b =
 
 unfoldable pub updateCall : Index → Key → Aabb2D → After
 updateCall ix k b =
-    cond (not (soundIndex ix)) (record { answer = answers.Refused no.Unsound; index = ix })
-    (cond (not (live ix k)) (record { answer = answers.Refused no.DeadKey; index = ix })
+    cond (not (soundIndex ix)) (record { answer = answers.Refused (refusal 1); index = ix })
+    (cond (not (live ix k)) (record { answer = answers.Refused (refusal 10); index = ix })
     (record { answer = answers.Done; index = updateOf ix (k .0) b }))
 
 -- the entry is marked removed, and queued if it had no mark; an added one goes at once, and its slot is freed
@@ -155,15 +159,15 @@ removeOf ix x =
 
 unfoldable pub removeCall : Index → Key → After
 removeCall ix k =
-    cond (not (soundIndex ix)) (record { answer = answers.Refused no.Unsound; index = ix })
-    (cond (not (live ix k)) (record { answer = answers.Refused no.DeadKey; index = ix })
+    cond (not (soundIndex ix)) (record { answer = answers.Refused (refusal 1); index = ix })
+    (cond (not (live ix k)) (record { answer = answers.Refused (refusal 10); index = ix })
     (record { answer = answers.Done; index = removeOf ix (k .0) }))
 
 -- ---- clear: everything is as in a fresh index, generations too
 
 unfoldable pub clearCall : Index → After
 clearCall ix =
-    cond (not (soundIndex ix)) (record { answer = answers.Refused no.Unsound; index = ix }) (record { answer = answers.Done; index = freshIndex })
+    cond (not (soundIndex ix)) (record { answer = answers.Refused (refusal 1); index = ix }) (record { answer = answers.Done; index = freshIndex })
 
 -- ---- commit
 
@@ -195,8 +199,8 @@ commitOf ix w =
 
 unfoldable pub commitCall : Index → ℕ → ℕ → ℕ → ℕ → AfterCommit
 commitCall ix a r o n =
-    cond (not (soundIndex ix)) (record { answer = commits.Refused no.Unsound; index = ix })
-    (cond (short a r o n) (record { answer = commits.Refused no.ShortRoom; index = ix })
+    cond (not (soundIndex ix)) (record { answer = commits.Refused (refusal 1); index = ix })
+    (cond (short a r o n) (record { answer = commits.Refused (refusal 8); index = ix })
     (record { answer = commits.Damage (length (workOf ix .added)) (length (workOf ix .removed)) (length (workOf ix .old)); index = commitOf ix (workOf ix) }))
 
 -- the rooms after it: the damage in front of each, and nothing touched where the call is refused
@@ -220,7 +224,7 @@ pointSlots ix x y = query.slots 512 (query.visitsPoint (ix .backend .present) (i
 -- 8: room for fewer than 512 entries, of four numbers each
 unfoldable pub queryAnswer : Index → List ℕ → ℕ → Queried
 queryAnswer ix xs len =
-    cond (not (soundIndex ix)) (queries.Refused no.Unsound) (cond (ltb len 2048) (queries.Refused no.ShortRoom) (queries.Entries (length xs)))
+    cond (not (soundIndex ix)) (queries.Refused (refusal 1)) (cond (ltb len 2048) (queries.Refused (refusal 8)) (queries.Entries (length xs)))
 
 -- the entries in front, and nothing touched where the call is refused
 unfoldable pub queryRoom : Index → List ℕ → List ℕ → List ℕ

@@ -1,5 +1,6 @@
 // The index over FlatVec (document 01, modules 4 and 5), by value: understory_index's index.rs over f64, with a node id as payload and 512
-// slots. Every call takes every index, key, box and room; a refused call returns the index as it was given.
+// slots. Every call takes every index, key, box and room. A refused call leaves the rooms as they were, and one that returns an index returns
+// it as it was given.
 ghost use mathlib.Core.Path.{_≡_};
 ghost use Prim.Native.Nat.{_-_};
 ghost use lib.ListN.{length};
@@ -10,7 +11,7 @@ use boxes::Key;
 use boxes::NodeId;
 use index_entries::Found;
 
-// FlatVec: a box for each slot that has been committed. 0 in `present` stands for none.
+// FlatVec: a box for each slot whose entry the last commits have left there. 0 in `present` stands for none.
 pub struct FlatVec {
     pub present: [u8; 512],
     pub boxes: [f64; 2048],
@@ -88,7 +89,7 @@ pub fn fresh() -> Index
 
 // How many slots are used once an insert has taken its slot.
 fn used_after(frees: usize, used: usize) -> usize
-    requires { ⌜ spec.Room frees used ⌝ }
+    requires { ⌜ spec.SlotLeft frees used ⌝ }
     ensures { λ r. ⌜ r ≡ usedFor frees used ⌝ }
 {
     if frees == 0 { used + 1 } else { used }

@@ -4,7 +4,7 @@ use lib.ListN.{length}
 use borrow.Author.Tests.{eq-eqb, leb-false, not-false}
 use borrow.Author.Needs.{needs}
 use Rattle.understory_index.proofs.Calls.{insert-done}
-use Rattle.understory_index.specs.Index.{Room, insertCall}
+use Rattle.understory_index.specs.Index.{SlotLeft, insertCall}
 use Rattle.index_entries.proofs.Keep.{queue-of, queue-room, slot-fits}
 use Rattle.index_sound.proofs.Exact.{CountOf, count-tells}
 use Rattle.understory_index.proofs.insert.Statement.{statement}
@@ -22,7 +22,7 @@ count-here c =
     (sym (c .before .is-sound .ensures) ∙ not-false (c .before .is-sound .result) (c .if1 .left))
 
 -- a slot is left
-room-here : (c : tie.Else2) → let ix = c .before .before .before .before .before .before .before .args .t1 in Room (ix .frees) (ix .used)
+room-here : (c : tie.Else2) → let ix = c .before .before .before .before .before .before .before .args .t1 in SlotLeft (ix .frees) (ix .used)
 room-here c e =
     let ix = c .before .before .before .before .before .before .before .args .t1 in
     leb-false 512 (ix .used) (rw (eq-eqb (ix .frees) 0 e) at (c .if2 .left))
