@@ -23,28 +23,27 @@ pub fn visited<'a>(
     (present[x] != 0) & ((mark[x] != 0) & b.overlaps(rect))
 }
 
-// Inner: puts an entry, if it is visited, behind the n that stand in the room: its slot, its generation and its payload. How many stand
-// there then is returned.
-pub fn push_entry(
-    room: &mut [u32],
-    n: usize,
-    take: bool,
-    slot: u32,
-    generation: u32,
-    p: NodeId,
-) -> usize
+// Inner: puts an entry, if it is visited, behind the n that stand in the room: its slot, its generation and its payload.
+pub fn push_entry(room: &mut [u32], n: usize, take: bool, slot: u32, generation: u32, p: NodeId)
     requires { ⌜ (n < 512) × (4 * n + 4 ≤ length (now room)) ⌝ }
-    ensures { λ r. ⌜ (now (room .exit) ≡ cond take (store 4 (now (room .entry)) n (spec.words slot generation p)) (now (room .entry))) × (r ≡ cond take (n + 1) n) ⌝ }
+    ensures { λ _. ⌜ now (room .exit) ≡ cond take (store 4 (now (room .entry)) n (spec.words slot generation p)) (now (room .entry)) ⌝ }
 {
-    if take {
-        let at = 4 * n;
-        room[at] = slot;
-        room[at + 1] = generation;
-        room[at + 2] = p.0;
-        room[at + 3] = p.1;
-        return n + 1;
+    if !take {
+        return;
     }
-    n
+    let at = 4 * n;
+    room[at] = slot;
+    room[at + 1] = generation;
+    room[at + 2] = p.0;
+    room[at + 3] = p.1;
+}
+
+// How many stand there then.
+fn count_with(n: usize, take: bool) -> usize
+    requires { ⌜ n < 512 ⌝ }
+    ensures { λ r. ⌜ r ≡ cond take (n + 1) n ⌝ }
+{
+    if take { n + 1 } else { n }
 }
 
 // Inner: lists the entries that are visited, in rising slot order.
@@ -65,7 +64,8 @@ pub fn visit_rect<'a>(
     while x < 512 {
         let take = visited(present, boxes, mark, x, rect);
         let p = cells::id_at(payload, x);
-        n = push_entry(room, n, take, x as u32, generation[x], p);
+        push_entry(room, n, take, x as u32, generation[x], p);
+        n = count_with(n, take);
         x += 1;
     }
     n

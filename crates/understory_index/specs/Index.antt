@@ -153,7 +153,7 @@ removeOf ix x =
       free = cond (added (markAt ix x)) (set (ix .free) (ix .frees) x) (ix .free);
       frees = cond (added (markAt ix x)) (ix .frees + 1) (ix .frees);
       dirty = cond (unmarked (markAt ix x)) (queueWith (ix .dirty) (ix .queued) x) (ix .dirty);
-      queued = cond (unmarked (markAt ix x)) (lengthWith (ix .dirty) (ix .queued) x) (ix .queued);
+      queued = cond (unmarked (markAt ix x)) (lengthWith (ix .dirty) (ix .queued) x) (ix .queued);  -- an emptied slot keeps its place
       backend = ix .backend;
     }
 

@@ -3,9 +3,13 @@ use mathlib.Core.Path.{refl}
 use native.Mathlib.Omega.{arith}
 use lib.ListN.{length-set}
 use borrow.Author.Needs.{needs}
+use borrow.Author.Tests.{not-true, not-false}
 use Rattle.cells.proofs.Segments.{plus-2, plus-3}
 use Rattle.index_query.proofs.push_entry.Statement.{statement}
 use Rattle.index_query.proofs.push_entry.Tie as tie
+
+returns : tie.Need-returns
+returns c = rw (not-true (c .before .args .take) (c .if1 .taken)) refl
 
 mul-at : tie.Need-mul-at
 mul-at c = search needs
@@ -43,22 +47,17 @@ mul-room-4 c = search needs
 slice-write-room-4 : tie.Need-slice-write-room-4
 slice-write-room-4 c = simp length-set (omega arith)
 
-add-result : tie.Need-add-result
-add-result c = search needs
-
 same-length : tie.Need-same-length
 same-length c = search needs
 
-returns : tie.Need-returns
-returns c = rw (c .if1 .taken) (simp (add-one, plus-2, plus-3), refl)
-
 returns-2 : tie.Need-returns-2
-returns-2 c = search needs
+returns-2 c = rw (not-false (c .before .args .take) (c .if1 .left)) (simp (add-one, plus-2, plus-3))
 
 pub push-entry-spec : {M : Type 1} → statement M
 push-entry-spec =
     tie.close
     (tie.spec
+    returns
     mul-at
     mul-room
     slice-write-room
@@ -71,7 +70,5 @@ push-entry-spec =
     add-room-3
     mul-room-4
     slice-write-room-4
-    add-result
     same-length
-    returns
     returns-2)

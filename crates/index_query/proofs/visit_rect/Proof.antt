@@ -36,24 +36,28 @@ element-copy-out-push-entry c = search needs
 push-entry-requires : tie.Need-push-entry-requires Inv-loop μ-loop
 push-entry-requires c κs = let L = c .before .before .before .before .before .loop in let l = c .before .before .before .before .loop-test .taken in (omega (arith, L .inv .3 .few), omega (arith, L .inv .3 .few))
 
+count-with-requires : tie.Need-count-with-requires Inv-loop μ-loop
+count-with-requires c κs = let L = c .before .before .before .before .before .before .before .before .loop in let l = c .before .before .before .before .before .before .before .loop-test .taken in omega (arith, L .inv .3 .few)
+
 add-x : tie.Need-add-x Inv-loop μ-loop
-add-x c = omega (arith, c .before .before .before .before .before .before .before .loop-test .taken)
+add-x c = omega (arith, c .before .before .before .before .before .before .before .before .loop-test .taken)
 
 loop-less : tie.Need-loop-less Inv-loop μ-loop
-loop-less c = omega (arith, c .before .before .before .before .before .before .before .loop-test .taken)
+loop-less c = omega (arith, c .before .before .before .before .before .before .before .before .loop-test .taken)
 
 loop-again : tie.Need-loop-again Inv-loop μ-loop
-loop-again c = let L = c .before .before .before .before .before .before .before .before .loop in
-    let A = c .before .before .before .before .before .before .before .before .before .before .args in
-    let h = c .before .before .before .before .before .before .before .loop-test .taken in
-    let T = c .before .before .before .before .before .before .visited in
-    let E = c .before .before .push-entry .ensures in
+loop-again c = let L = c .before .before .before .before .before .before .before .before .before .loop in
+    let A = c .before .before .before .before .before .before .before .before .before .before .before .args in
+    let h = c .before .before .before .before .before .before .before .before .loop-test .taken in
+    let T = c .before .before .before .before .before .before .before .visited in
+    let E = c .before .before .before .push-entry .ensures in
+    let N = c .count-with .ensures in
     let W = words (L .x) (getD (A .generation .now) (L .x) 0) (idAt (A .payload .now) (L .x)) in
-    let r = rw (c .before .before .before .before .before .id-at .ensures) at (E .0) in (
+    let r = rw (c .before .before .before .before .before .before .id-at .ensures) at E in (
       omega arith,
       L .inv .1,
       ap length r ∙ store-length (T .result) (L .room) (L .n) W ∙ L .inv .2,
-      listed-next (A .generation .now) (A .payload .now) (visits (A .present .now) (A .boxes .now) (A .mark .now) (A .rect)) (A .room .now) (L .room) _ (L .n) _ (L .x) (T .result) (L .inv .3) h (L .inv .1) (T .ensures) r (E .1),
+      listed-next (A .generation .now) (A .payload .now) (visits (A .present .now) (A .boxes .now) (A .mark .now) (A .rect)) (A .room .now) (L .room) _ (L .n) _ (L .x) (T .result) (L .inv .3) h (L .inv .1) (T .ensures) r N,
     )
 
 same-length : tie.Need-same-length Inv-loop μ-loop
@@ -75,6 +79,7 @@ visit-rect-spec =
     mul-push-entry
     element-copy-out-push-entry
     push-entry-requires
+    count-with-requires
     add-x
     loop-less
     loop-again

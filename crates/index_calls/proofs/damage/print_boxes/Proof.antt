@@ -1,0 +1,54 @@
+-- `index_calls::damage::print_boxes` is safe and ends: there are at most 512 boxes, and the measure is what is left of 512. Assumes nothing.
+use Prim.Native.Nat.{_-_}
+use borrow.Author.Needs.{needs}
+use Rattle.index_calls.proofs.damage.print_boxes.Statement.{statement}
+use Rattle.index_calls.proofs.damage.print_boxes.Tie as tie
+
+abbrev Inv-loop : tie.InvT-loop
+Inv-loop room n most i₀ i = Unit {0}
+
+abbrev μ-loop : tie.MeasureT-loop
+μ-loop room n most i₀ i = 512 - i
+
+count-requires : tie.Need-count-requires Inv-loop μ-loop
+count-requires c κs = search needs
+
+at-most-requires : tie.Need-at-most-requires Inv-loop μ-loop
+at-most-requires c κs = search needs
+
+loop-holds : tie.Need-loop-holds Inv-loop μ-loop
+loop-holds c = search needs
+
+box-of-requires : tie.Need-box-of-requires Inv-loop μ-loop
+box-of-requires c κs = search needs
+
+corners-requires : tie.Need-corners-requires Inv-loop μ-loop
+corners-requires c κs = search needs
+
+add-i : tie.Need-add-i Inv-loop μ-loop
+add-i c = search needs
+
+loop-less : tie.Need-loop-less Inv-loop μ-loop
+loop-less c = search needs
+
+loop-again : tie.Need-loop-again Inv-loop μ-loop
+loop-again c = search needs
+
+returns : tie.Need-returns Inv-loop μ-loop
+returns c = search needs
+
+pub print-boxes-spec : {M : Type 1} → statement M
+print-boxes-spec =
+    tie.close
+    (tie.spec
+    Inv-loop
+    μ-loop
+    count-requires
+    at-most-requires
+    loop-holds
+    box-of-requires
+    corners-requires
+    add-i
+    loop-less
+    loop-again
+    returns)

@@ -1,0 +1,15 @@
+-- `index_calls::words::within` meets its contract: it is at most the length. Assumes nothing.
+use mathlib.Core.Path.{sym}
+use native.Mathlib.Nat.{le-refl}
+use lib.Seq.{length-take-le}
+use Rattle.index_calls.proofs.words.within.Statement.{statement}
+use Rattle.index_calls.proofs.words.within.Tie as tie
+
+returns : tie.Need-returns
+returns c = (c .if1 .taken, sym (length-take-le _ _ (c .if1 .taken)))
+
+returns-2 : tie.Need-returns-2
+returns-2 c = (le-refl _, sym (length-take-le _ (c .before .args .s .now) (le-refl _)))
+
+pub within-spec : {M : Type 1} → statement M
+within-spec = tie.close (tie.spec returns returns-2)

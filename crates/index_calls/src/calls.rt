@@ -1,0 +1,219 @@
+// Each call: read from its line, made, and answered. A malformed call leaves the index as it was.
+ghost use mathlib.Core.Path.{_≡_};
+ghost use Prim.Native.Nat.{_≤_};
+ghost use lib.ListN.{length};
+use crate::damage;
+use crate::print;
+use crate::words;
+use boxes::Aabb2D;
+use boxes::Key;
+use boxes::NodeId;
+use understory_index::Committed;
+use understory_index::Index;
+use understory_index::Inserted;
+use understory_index::Queried;
+
+// How many numbers room for n boxes or n entries holds, four each; from 512 on all that there is.
+fn lent(n: u32) -> usize
+    ensures { λ r. ⌜ r ≤ 2048 ⌝ }
+{
+    if n < 512 { n as usize * 4 } else { 2048 }
+}
+
+fn box_room() -> [f64; 2048]
+    ensures { λ r. ⌜ 2048 ≡ length r ⌝ }
+{
+    [0.0; 2048]
+}
+
+fn entry_room() -> [u32; 2048]
+    ensures { λ r. ⌜ 2048 ≡ length r ⌝ }
+{
+    [0u32; 2048]
+}
+
+fn malformed(ix: Index) -> Index {
+    print::text(b"malformed");
+    ix
+}
+
+fn new(n: usize, ix: Index) -> Index {
+    if n != 1 {
+        return malformed(ix);
+    }
+    print::text(b"ok");
+    understory_index::fresh()
+}
+
+fn clear(n: usize, ix: Index) -> Index {
+    if n != 1 {
+        return malformed(ix);
+    }
+    let after = understory_index::clear(ix);
+    let answer = after.answer;
+    print::answer(answer);
+    after.index
+}
+
+// What `room_after` keeps is only answered here.
+fn room_line(line: &[u8], n: usize, ix: Index) -> Index {
+    let w = words::decimal_at(line, 1);
+    if !((n == 2) & w.is_read) {
+        return malformed(ix);
+    }
+    print::text(b"ok");
+    ix
+}
+
+fn insert(line: &[u8], n: usize, ix: Index) -> Index {
+    let b = words::box_at(line, 1);
+    let p = words::pair_at(line, 5);
+    if !((n == 6) & b.is_read & p.is_read) {
+        return malformed(ix);
+    }
+    let aabb = b.aabb;
+    let after = understory_index::insert(ix, aabb, NodeId(p.index, p.generation));
+    let answer = after.answer;
+    match answer {
+        Inserted::Key(k) => print::pair(k.0, k.1),
+        Inserted::Refused(r) => print::refused(r),
+    }
+    after.index
+}
+
+fn update(line: &[u8], n: usize, ix: Index) -> Index {
+    let p = words::pair_at(line, 1);
+    let b = words::box_at(line, 2);
+    if !((n == 6) & p.is_read & b.is_read) {
+        return malformed(ix);
+    }
+    let aabb = b.aabb;
+    let after = understory_index::update(ix, Key(p.index, p.generation), aabb);
+    let answer = after.answer;
+    print::answer(answer);
+    after.index
+}
+
+fn remove(line: &[u8], n: usize, ix: Index) -> Index {
+    let p = words::pair_at(line, 1);
+    if !((n == 2) & p.is_read) {
+        return malformed(ix);
+    }
+    let after = understory_index::remove(ix, Key(p.index, p.generation));
+    let answer = after.answer;
+    print::answer(answer);
+    after.index
+}
+
+fn commit(n: usize, ix: Index, room: u32) -> Index {
+    if n != 1 {
+        return malformed(ix);
+    }
+    let mut added = box_room();
+    let mut removed = box_room();
+    let mut old = box_room();
+    let mut new = box_room();
+    let k = lent(room);
+    let after = understory_index::commit(
+        ix,
+        &mut added[..k],
+        &mut removed[..k],
+        &mut old[..k],
+        &mut new[..k],
+    );
+    let answer = after.answer;
+    match answer {
+        Committed::Damage {
+            added: adds,
+            removed: removals,
+            moved: moves,
+        } => damage::kinds(&added, adds, &removed, removals, &old, &new, moves),
+        Committed::Refused(r) => print::refused(r),
+    }
+    after.index
+}
+
+fn found(answer: Queried, room: &[u32; 2048]) {
+    match answer {
+        Queried::Entries(n) => print::entries(room, n),
+        Queried::Refused(r) => print::refused(r),
+    }
+}
+
+fn ask_point(ix: Index, x: f64, y: f64, room: u32) {
+    let mut entries = entry_room();
+    let k = lent(room);
+    let answer = understory_index::query_point(ix, x, y, &mut entries[..k]);
+    found(answer, &entries);
+}
+
+fn ask_rect(ix: Index, rect: Aabb2D, room: u32) {
+    let mut entries = entry_room();
+    let k = lent(room);
+    let answer = understory_index::query_rect(ix, rect, &mut entries[..k]);
+    found(answer, &entries);
+}
+
+fn query_point(line: &[u8], n: usize, ix: Index, room: u32) -> Index {
+    let x = words::number_at(line, 1);
+    let y = words::number_at(line, 2);
+    if !((n == 3) & x.is_read & y.is_read) {
+        return malformed(ix);
+    }
+    ask_point(ix, x.value, y.value, room);
+    ix
+}
+
+fn query_rect(line: &[u8], n: usize, ix: Index, room: u32) -> Index {
+    let b = words::box_at(line, 1);
+    if !((n == 5) & b.is_read) {
+        return malformed(ix);
+    }
+    let rect = b.aabb;
+    ask_rect(ix, rect, room);
+    ix
+}
+
+// The room that is lent from a line on: it stays through `new` and `clear`.
+pub(crate) fn room_after(line: &[u8], room: u32) -> u32 {
+    let n = words::count(line);
+    let w = words::decimal_at(line, 1);
+    let is_room = words::name(b"room", line) == 0;
+    if is_room & (n == 2) & w.is_read {
+        w.value
+    } else {
+        room
+    }
+}
+
+fn call(line: &[u8], ix: Index, room: u32) -> Index {
+    let n = words::count(line);
+    match words::name(
+        b"new clear room insert update remove commit query_point query_rect",
+        line,
+    ) {
+        0 => new(n, ix),
+        1 => clear(n, ix),
+        2 => room_line(line, n, ix),
+        3 => insert(line, n, ix),
+        4 => update(line, n, ix),
+        5 => remove(line, n, ix),
+        6 => commit(n, ix, room),
+        7 => query_point(line, n, ix, room),
+        8 => query_rect(line, n, ix, room),
+        _ => malformed(ix),
+    }
+}
+
+// Answers a line, but for an empty one and a note.
+pub(crate) fn answer(line: &[u8], ix: Index, room: u32) -> Index {
+    if line.len() == 0 {
+        return ix;
+    }
+    if line[0] == b'#' {
+        return ix;
+    }
+    let after = call(line, ix, room);
+    print::text(b"\n");
+    after
+}

@@ -1,0 +1,97 @@
+// Answers a call list of the index alone, read on standard input, from the proved index: one answer for each call, a line each.
+// An empty line and a line that begins with `#` have no answer. A malformed line is answered `malformed` and changes nothing.
+mod words; // a line's words, and what they stand for
+mod print; // the parts of an answer
+mod damage; // a commit's answer
+mod calls; // each call
+
+use understory_index::Index;
+
+// What is known after a part of the input: how many bytes of the line that has begun are held, the room that is lent, and the index.
+struct State {
+    length: usize,
+    room: u32,
+    open: bool,
+    index: Index,
+}
+
+// The end of a line whose first bytes are held in `space`.
+fn finish(space: &[u8], s: State) -> State {
+    let length = words::within(s.length, space);
+    let line = &space[..length];
+    let room = calls::room_after(line, s.room);
+    let ix = s.index;
+    State {
+        length: 0,
+        room,
+        open: s.open,
+        index: calls::answer(line, ix, room),
+    }
+}
+
+// Holds what comes after the first `held` bytes, and says how many are held. Of a line that is too long only the first bytes are
+// held: no call is so long.
+fn hold(space: &mut [u8], held: usize, part: &[u8]) -> usize {
+    let mut n = held;
+    let mut i = 0;
+    while i < part.len() {
+        if n >= space.len() {
+            return n;
+        }
+        space[n] = part[i];
+        n += 1;
+        i += 1;
+    }
+    n
+}
+
+// The lines of a block. The last may go on in the next block.
+fn feed(space: &mut [u8], start: State, block: &[u8]) -> State {
+    let mut s = start;
+    let mut at = 0;
+    while at < block.len() {
+        let end = bytes::scan::find(block, at, block.len(), b'\n');
+        s.length = hold(space, s.length, &block[at..end]);
+        if end < block.len() {
+            s = finish(space, s);
+        }
+        at = end + 1;
+    }
+    s
+}
+
+// The end of the input, or a read that fails. A last line without its line end is a line.
+fn close(space: &[u8], s: State) -> State {
+    let mut t = s;
+    if s.length > 0 {
+        t = finish(space, s);
+    }
+    t.open = false;
+    t
+}
+
+fn read_some(space: &mut [u8], s: State) -> State {
+    let mut block = io::large_buffer();
+    let got = libc::read(0, &mut block);
+    if got <= 0 {
+        return close(space, s);
+    }
+    let n = io::count(got, &block);
+    feed(space, s, &block[..n])
+}
+
+// A proved loop has to end, and nothing says that the input does: the turns are counted down from a number that no run uses up.
+fn main() {
+    let mut space = [0u8; 128];
+    let mut s = State {
+        length: 0,
+        room: 512,
+        open: true,
+        index: understory_index::fresh(),
+    };
+    let mut turns = u64::MAX;
+    while turns > 0 && s.open {
+        s = read_some(&mut space, s);
+        turns -= 1;
+    }
+}
