@@ -43,6 +43,23 @@ numberOf no.Full = 11
 abbrev pub refusal : ℕ → Refusal
 refusal n = cond (eqb n 1) no.Unsound (cond (eqb n 8) no.ShortRoom (cond (eqb n 10) no.DeadKey no.Full))
 
+-- the number that each answer gives: 0 where the call is done
+unfoldable pub insertedNumber : Inserted → ℕ
+insertedNumber (inserts.Key k) = 0
+insertedNumber (inserts.Refused r) = numberOf r
+
+unfoldable pub answerNumber : Answer → ℕ
+answerNumber answers.Done = 0
+answerNumber (answers.Refused r) = numberOf r
+
+unfoldable pub committedNumber : Committed → ℕ
+committedNumber (commits.Damage added removed moved) = 0
+committedNumber (commits.Refused r) = numberOf r
+
+unfoldable pub queriedNumber : Queried → ℕ
+queriedNumber (queries.Entries n) = 0
+queriedNumber (queries.Refused r) = numberOf r
+
 -- 1: the index is unsound
 abbrev pub soundIndex : Index → Bool
 soundIndex ix = soundOf (ix .mark) (ix .free) (ix .frees) (ix .dirty) (ix .queued) (ix .used)
