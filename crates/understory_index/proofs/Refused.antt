@@ -1,4 +1,5 @@
--- Refusal 1 of every call, both ways: it is answered if and only if document 01's "Sound index" fails. For every index whatever.
+-- Refusal 1 of every call, both ways: it is answered if and only if document 01's "Sound index" fails. For every value of the type: `Shaped`
+-- says that the tables have the type's lengths, and nothing else.
 use mathlib.Core.Path.{_≡_, refl, sym, _∙_}
 use mathlib.Core.Bool.{Bool, true, false, not, cond}
 use mathlib.Core.List.{List}
