@@ -1,16 +1,16 @@
 // Operations on transforms. Coefficients and mapped points are compared to the bit.
 ghost use Prim.Native.Nat.{_≤_};
-use crate::words::Outcome;
-use crate::words::alike_rect;
-use crate::words::exact;
-use crate::words::float;
-use crate::words::holds;
-use crate::words::judged;
-use crate::words::place;
-use crate::words::point;
-use crate::words::rect;
+use crate::line::Outcome;
+use crate::line::alike_rect;
+use crate::line::exact;
+use crate::line::holds;
+use crate::line::judged;
+use crate::line::point;
+use crate::line::rect;
 use transforms::affine::Affine;
 use transforms::util::transform_rect_bbox;
+use words::float;
+use words::place;
 
 fn affine(w: &[u64; 20], i: usize) -> Affine
     requires { ⌜ i ≤ 14 ⌝ }

@@ -1,17 +1,17 @@
 // Operations on clips. A clip is nine words: its kind, the four edges, the four radii; a kind leaves unread what it has not.
 ghost use Prim.Native.Nat.{_≤_};
-use crate::words::Outcome;
-use crate::words::alike;
-use crate::words::alike_rect;
-use crate::words::float;
-use crate::words::holds;
-use crate::words::judged;
-use crate::words::place;
-use crate::words::point;
-use crate::words::rect;
+use crate::line::Outcome;
+use crate::line::alike;
+use crate::line::alike_rect;
+use crate::line::holds;
+use crate::line::judged;
+use crate::line::point;
+use crate::line::rect;
 use clips::clip::Clip;
 use clips::clip::ClipRect;
 use geometry::rect::Rect;
+use words::float;
+use words::place;
 
 fn is_kind(w: u64) -> bool {
     w <= 2

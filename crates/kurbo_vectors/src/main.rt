@@ -1,13 +1,13 @@
 // Runs vectors of kurbo's geometry, on standard input, through the crates numbers, geometry, transforms and clips, and writes which differ.
 // docs/VECTORS.md has the format. A line that is no vector is malformed, counts as one that differs, and stops nothing.
-mod words; // a line's words, and numbers against words
+mod line; // a line's words, and numbers against words
 mod affine_ops;
 mod clip_ops;
 mod number_ops;
 mod rect_ops;
 
-use crate::words::Count;
-use crate::words::Outcome;
+use crate::line::Count;
+use crate::line::Outcome;
 
 // What is known after a part of the input: how many bytes of the line that has begun are held, and the counts.
 struct State {
@@ -43,9 +43,9 @@ fn operation(name: &[u8], w: &[u64; 20], n: usize) -> Outcome {
 
 // A name, then the words.
 fn outcome(line: &[u8]) -> Outcome {
-    let end = words::name_end(line);
+    let end = line::name_end(line);
     let mut w = [0u64; 20];
-    match words::read(line, end, &mut w) {
+    match line::read(line, end, &mut w) {
         Count::Words(n) => operation(&line[..end], &w, n),
         Count::Malformed => Outcome::Malformed,
     }
@@ -53,7 +53,7 @@ fn outcome(line: &[u8]) -> Outcome {
 
 // Writes `line 7 differs: rect_union`, and counts one.
 fn report(line: &[u8], number: u64, what: &[u8]) -> u64 {
-    let end = words::name_end(line);
+    let end = line::name_end(line);
     io::write_all(1, b"line ");
     io::print_decimal(1, number);
     io::write_all(1, what);

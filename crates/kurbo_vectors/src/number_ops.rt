@@ -1,15 +1,15 @@
 // Operations on one or two numbers.
-use crate::words::Outcome;
-use crate::words::alike;
-use crate::words::exact;
-use crate::words::float;
-use crate::words::holds;
-use crate::words::judged;
-use crate::words::place;
+use crate::line::Outcome;
+use crate::line::alike;
+use crate::line::exact;
+use crate::line::holds;
+use crate::line::judged;
 use numbers::abs;
 use numbers::is_finite;
 use numbers::max;
 use numbers::min;
+use words::float;
+use words::place;
 
 pub(crate) fn run(name: &[u8], w: &[u64; 20], n: usize) -> Outcome {
     let x = float(w[0]);

@@ -1,14 +1,14 @@
 // Operations on rectangles and insets.
 ghost use Prim.Native.Nat.{_≤_};
-use crate::words::Outcome;
-use crate::words::alike_rect;
-use crate::words::exact;
-use crate::words::holds;
-use crate::words::judged;
-use crate::words::place;
-use crate::words::point;
-use crate::words::rect;
+use crate::line::Outcome;
+use crate::line::alike_rect;
+use crate::line::exact;
+use crate::line::holds;
+use crate::line::judged;
+use crate::line::point;
+use crate::line::rect;
 use geometry::insets::Insets;
+use words::place;
 
 fn insets(w: &[u64; 20], i: usize) -> Insets
     requires { ⌜ i ≤ 16 ⌝ }

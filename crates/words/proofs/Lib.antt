@@ -1,0 +1,4 @@
+pub mod Back
+pub mod Nan
+pub mod Spelt
+pub mod Split
