@@ -3,8 +3,9 @@ ghost use mathlib.Core.Path.{_≡_};
 ghost use Prim.Native.Nat.{_≤_};
 ghost use lib.ListN.{length};
 use crate::damage;
+use crate::line;
 use crate::print;
-use crate::words;
+use crate::print::Buffer;
 use boxes::Aabb2D;
 use boxes::Key;
 use boxes::NodeId;
@@ -32,82 +33,82 @@ fn entry_room() -> [u32; 2048]
     [0u32; 2048]
 }
 
-fn malformed(ix: Index) -> Index {
-    print::text(b"malformed");
+fn malformed(out: &mut Buffer, used: &mut usize, ix: Index) -> Index {
+    print::text(out, used, b"malformed");
     ix
 }
 
-fn new(n: usize, ix: Index) -> Index {
+fn new(out: &mut Buffer, used: &mut usize, n: usize, ix: Index) -> Index {
     if n != 1 {
-        return malformed(ix);
+        return malformed(out, used, ix);
     }
-    print::text(b"ok");
+    print::text(out, used, b"ok");
     understory_index::fresh()
 }
 
-fn clear(n: usize, ix: Index) -> Index {
+fn clear(out: &mut Buffer, used: &mut usize, n: usize, ix: Index) -> Index {
     if n != 1 {
-        return malformed(ix);
+        return malformed(out, used, ix);
     }
     let after = understory_index::clear(ix);
     let answer = after.answer;
-    print::answer(answer);
+    print::answer(out, used, answer);
     after.index
 }
 
 // What `room_after` keeps is only answered here.
-fn room_line(line: &[u8], n: usize, ix: Index) -> Index {
-    let w = words::decimal_at(line, 1);
+fn room_line(out: &mut Buffer, used: &mut usize, line: &[u8], n: usize, ix: Index) -> Index {
+    let w = line::decimal_at(line, 1);
     if !((n == 2) & w.is_read) {
-        return malformed(ix);
+        return malformed(out, used, ix);
     }
-    print::text(b"ok");
+    print::text(out, used, b"ok");
     ix
 }
 
-fn insert(line: &[u8], n: usize, ix: Index) -> Index {
-    let b = words::box_at(line, 1);
-    let p = words::pair_at(line, 5);
+fn insert(out: &mut Buffer, used: &mut usize, line: &[u8], n: usize, ix: Index) -> Index {
+    let b = line::box_at(line, 1);
+    let p = line::pair_at(line, 5);
     if !((n == 6) & b.is_read & p.is_read) {
-        return malformed(ix);
+        return malformed(out, used, ix);
     }
     let aabb = b.aabb;
     let after = understory_index::insert(ix, aabb, NodeId(p.index, p.generation));
     let answer = after.answer;
     match answer {
-        Inserted::Key(k) => print::pair(k.0, k.1),
-        Inserted::Refused(r) => print::refused(r),
+        Inserted::Key(k) => print::pair(out, used, k.0, k.1),
+        Inserted::Refused(r) => print::refused(out, used, r),
     }
     after.index
 }
 
-fn update(line: &[u8], n: usize, ix: Index) -> Index {
-    let p = words::pair_at(line, 1);
-    let b = words::box_at(line, 2);
+fn update(out: &mut Buffer, used: &mut usize, line: &[u8], n: usize, ix: Index) -> Index {
+    let p = line::pair_at(line, 1);
+    let b = line::box_at(line, 2);
     if !((n == 6) & p.is_read & b.is_read) {
-        return malformed(ix);
+        return malformed(out, used, ix);
     }
     let aabb = b.aabb;
     let after = understory_index::update(ix, Key(p.index, p.generation), aabb);
     let answer = after.answer;
-    print::answer(answer);
+    print::answer(out, used, answer);
     after.index
 }
 
-fn remove(line: &[u8], n: usize, ix: Index) -> Index {
-    let p = words::pair_at(line, 1);
+fn remove(out: &mut Buffer, used: &mut usize, line: &[u8], n: usize, ix: Index) -> Index {
+    let p = line::pair_at(line, 1);
     if !((n == 2) & p.is_read) {
-        return malformed(ix);
+        return malformed(out, used, ix);
     }
     let after = understory_index::remove(ix, Key(p.index, p.generation));
     let answer = after.answer;
-    print::answer(answer);
+    print::answer(out, used, answer);
     after.index
 }
 
-fn commit(n: usize, ix: Index, room: u32) -> Index {
+fn commit(out: &mut Buffer, used: &mut usize, n: usize, ix: Index, room: u32) -> Index {
     if n != 1 {
-        return malformed(ix);
+        return malformed(out, used, ix);
     }
     let mut added = box_room();
     let mut removed = box_room();
@@ -127,58 +128,82 @@ fn commit(n: usize, ix: Index, room: u32) -> Index {
             added: adds,
             removed: removals,
             moved: moves,
-        } => damage::kinds(&added, adds, &removed, removals, &old, &new, moves),
-        Committed::Refused(r) => print::refused(r),
+        } => damage::kinds(
+            out,
+            used,
+            &added,
+            adds,
+            &removed,
+            removals,
+            &old,
+            &new,
+            moves,
+        ),
+        Committed::Refused(r) => print::refused(out, used, r),
     }
     after.index
 }
 
-fn found(answer: Queried, room: &[u32; 2048]) {
+fn found(out: &mut Buffer, used: &mut usize, answer: Queried, room: &[u32; 2048]) {
     match answer {
-        Queried::Entries(n) => print::entries(room, n),
-        Queried::Refused(r) => print::refused(r),
+        Queried::Entries(n) => print::entries(out, used, room, n),
+        Queried::Refused(r) => print::refused(out, used, r),
     }
 }
 
-fn ask_point(ix: Index, x: f64, y: f64, room: u32) {
+fn ask_point(out: &mut Buffer, used: &mut usize, ix: Index, x: f64, y: f64, room: u32) {
     let mut entries = entry_room();
     let k = lent(room);
     let answer = understory_index::query_point(ix, x, y, &mut entries[..k]);
-    found(answer, &entries);
+    found(out, used, answer, &entries);
 }
 
-fn ask_rect(ix: Index, rect: Aabb2D, room: u32) {
+fn ask_rect(out: &mut Buffer, used: &mut usize, ix: Index, rect: Aabb2D, room: u32) {
     let mut entries = entry_room();
     let k = lent(room);
     let answer = understory_index::query_rect(ix, rect, &mut entries[..k]);
-    found(answer, &entries);
+    found(out, used, answer, &entries);
 }
 
-fn query_point(line: &[u8], n: usize, ix: Index, room: u32) -> Index {
-    let x = words::number_at(line, 1);
-    let y = words::number_at(line, 2);
+fn query_point(
+    out: &mut Buffer,
+    used: &mut usize,
+    line: &[u8],
+    n: usize,
+    ix: Index,
+    room: u32,
+) -> Index {
+    let x = line::number_at(line, 1);
+    let y = line::number_at(line, 2);
     if !((n == 3) & x.is_read & y.is_read) {
-        return malformed(ix);
+        return malformed(out, used, ix);
     }
-    ask_point(ix, x.value, y.value, room);
+    ask_point(out, used, ix, x.value, y.value, room);
     ix
 }
 
-fn query_rect(line: &[u8], n: usize, ix: Index, room: u32) -> Index {
-    let b = words::box_at(line, 1);
+fn query_rect(
+    out: &mut Buffer,
+    used: &mut usize,
+    line: &[u8],
+    n: usize,
+    ix: Index,
+    room: u32,
+) -> Index {
+    let b = line::box_at(line, 1);
     if !((n == 5) & b.is_read) {
-        return malformed(ix);
+        return malformed(out, used, ix);
     }
     let rect = b.aabb;
-    ask_rect(ix, rect, room);
+    ask_rect(out, used, ix, rect, room);
     ix
 }
 
 // The room that is lent from a line on: it stays through `new` and `clear`.
 pub(crate) fn room_after(line: &[u8], room: u32) -> u32 {
-    let n = words::count(line);
-    let w = words::decimal_at(line, 1);
-    let is_room = words::name(b"room", line) == 0;
+    let n = line::count(line);
+    let w = line::decimal_at(line, 1);
+    let is_room = line::name(b"room", line) == 0;
     if is_room & (n == 2) & w.is_read {
         w.value
     } else {
@@ -186,34 +211,40 @@ pub(crate) fn room_after(line: &[u8], room: u32) -> u32 {
     }
 }
 
-fn call(line: &[u8], ix: Index, room: u32) -> Index {
-    let n = words::count(line);
-    match words::name(
+fn call(out: &mut Buffer, used: &mut usize, line: &[u8], ix: Index, room: u32) -> Index {
+    let n = line::count(line);
+    match line::name(
         b"new clear room insert update remove commit query_point query_rect",
         line,
     ) {
-        0 => new(n, ix),
-        1 => clear(n, ix),
-        2 => room_line(line, n, ix),
-        3 => insert(line, n, ix),
-        4 => update(line, n, ix),
-        5 => remove(line, n, ix),
-        6 => commit(n, ix, room),
-        7 => query_point(line, n, ix, room),
-        8 => query_rect(line, n, ix, room),
-        _ => malformed(ix),
+        0 => new(out, used, n, ix),
+        1 => clear(out, used, n, ix),
+        2 => room_line(out, used, line, n, ix),
+        3 => insert(out, used, line, n, ix),
+        4 => update(out, used, line, n, ix),
+        5 => remove(out, used, line, n, ix),
+        6 => commit(out, used, n, ix, room),
+        7 => query_point(out, used, line, n, ix, room),
+        8 => query_rect(out, used, line, n, ix, room),
+        _ => malformed(out, used, ix),
     }
 }
 
 // Answers a line, but for an empty one and a note.
-pub(crate) fn answer(line: &[u8], ix: Index, room: u32) -> Index {
+pub(crate) fn answer(
+    out: &mut Buffer,
+    used: &mut usize,
+    line: &[u8],
+    ix: Index,
+    room: u32,
+) -> Index {
     if line.len() == 0 {
         return ix;
     }
     if line[0] == b'#' {
         return ix;
     }
-    let after = call(line, ix, room);
-    print::text(b"\n");
+    let after = call(out, used, line, ix, room);
+    print::text(out, used, b"\n");
     after
 }

@@ -1,51 +1,42 @@
 // A commit's answer: the boxes of each kind, and the union of them all.
-ghost use Prim.Native.Nat.{_<_};
 use crate::print;
-use boxes::Aabb2D;
+use crate::print::Buffer;
+use cells::box_at;
 use index_damage::Joined;
 
-fn box_of(room: &[f64; 2048], i: usize) -> Aabb2D
-    requires { ⌜ i < 512 ⌝ }
-{
-    Aabb2D::new(
-        room[i * 4],
-        room[i * 4 + 1],
-        room[i * 4 + 2],
-        room[i * 4 + 3],
-    )
-}
-
-fn print_boxes(room: &[f64; 2048], n: usize) {
-    print::count(n);
+fn print_boxes(out: &mut Buffer, used: &mut usize, room: &[f64; 2048], n: usize) {
+    print::count(out, used, n);
     let most = print::at_most(n);
     let mut i = 0;
     while i < most {
-        print::corners(box_of(room, i));
+        print::corners(out, used, box_at(room, i));
         i += 1;
     }
 }
 
-fn print_pairs(old: &[f64; 2048], new: &[f64; 2048], n: usize) {
-    print::count(n);
+fn print_pairs(out: &mut Buffer, used: &mut usize, old: &[f64; 2048], new: &[f64; 2048], n: usize) {
+    print::count(out, used, n);
     let most = print::at_most(n);
     let mut i = 0;
     while i < most {
-        print::corners(box_of(old, i));
-        print::corners(box_of(new, i));
+        print::corners(out, used, box_at(old, i));
+        print::corners(out, used, box_at(new, i));
         i += 1;
     }
 }
 
-fn print_union(u: Joined) {
-    print::text(b" union");
+fn print_union(out: &mut Buffer, used: &mut usize, u: Joined) {
+    print::text(out, used, b" union");
     match u {
-        Joined::None => print::text(b" none"),
-        Joined::Some(aabb) => print::corners(aabb),
-        Joined::ShortRoom => print::text(b" short"),
+        Joined::None => print::text(out, used, b" none"),
+        Joined::Some(aabb) => print::corners(out, used, aabb),
+        Joined::ShortRoom => print::text(out, used, b" short"),
     }
 }
 
 pub(crate) fn kinds<'a>(
+    out: &mut Buffer,
+    used: &mut usize,
     added: &'a [f64; 2048],
     adds: usize,
     removed: &'a [f64; 2048],
@@ -54,11 +45,15 @@ pub(crate) fn kinds<'a>(
     new: &'a [f64; 2048],
     moves: usize,
 ) {
-    print::text(b"added ");
-    print_boxes(added, adds);
-    print::text(b" removed ");
-    print_boxes(removed, removals);
-    print::text(b" moved ");
-    print_pairs(old, new, moves);
-    print_union(index_damage::union(added, adds, removed, removals, old, new, moves));
+    print::text(out, used, b"added ");
+    print_boxes(out, used, added, adds);
+    print::text(out, used, b" removed ");
+    print_boxes(out, used, removed, removals);
+    print::text(out, used, b" moved ");
+    print_pairs(out, used, old, new, moves);
+    print_union(
+        out,
+        used,
+        index_damage::union(added, adds, removed, removals, old, new, moves),
+    );
 }

@@ -1,59 +1,95 @@
-// The parts of an answer. Each goes to standard output at once.
+// The parts of an answer. They gather in `out`, of which the first `used` bytes are still to be written.
 ghost use Prim.Native.Nat.{_≤_, _<_};
 use boxes::Aabb2D;
 use understory_index::Answer;
 use understory_index::Refusal;
 
-pub(crate) fn text(s: &[u8]) {
-    io::write_all(1, s);
+pub(crate) type Buffer = [u8; 65536];
+
+// The first `n` bytes of `s`, to standard output.
+fn write(s: &[u8], n: usize) {
+    let k = words::within(n, s);
+    io::write_all(1, &s[..k]);
 }
 
-pub(crate) fn count(n: usize) {
-    io::print_decimal(1, n as u64);
+// Writes what has gathered.
+pub(crate) fn flush(out: &Buffer, used: usize) {
+    write(out, used);
+}
+
+// Where the next byte goes: where `out` is full, it is written out first.
+fn next(out: &Buffer, used: usize) -> usize
+    ensures { λ r. ⌜ r < 65536 ⌝ }
+{
+    if used < 65536 {
+        return used;
+    }
+    flush(out, used);
+    0
+}
+
+pub(crate) fn text(out: &mut Buffer, used: &mut usize, s: &[u8]) {
+    let mut n = *used;
+    let mut i = 0;
+    while i < s.len() {
+        let at = next(out, n);
+        out[at] = s[i];
+        n = at + 1;
+        i += 1;
+    }
+    *used = n;
+}
+
+pub(crate) fn count(out: &mut Buffer, used: &mut usize, n: usize) {
+    let mut digits = [0u8; 20];
+    let k = io::decimal(n as u64, &mut digits);
+    text(out, used, &digits[..k]);
 }
 
 // `index:generation`
-pub(crate) fn pair(index: u32, generation: u32) {
-    io::print_decimal(1, index as u64);
-    io::write_all(1, b":");
-    io::print_decimal(1, generation as u64);
+pub(crate) fn pair(out: &mut Buffer, used: &mut usize, index: u32, generation: u32) {
+    count(out, used, index as usize);
+    text(out, used, b":");
+    count(out, used, generation as usize);
 }
 
 // A space, then `nan`, `0` for either zero, or the 16 hexadecimal digits of the bits.
-fn number(x: f64) {
+fn number(out: &mut Buffer, used: &mut usize, x: f64) {
     if x != x {
-        io::write_all(1, b" nan");
+        text(out, used, b" nan");
         return;
     }
     if x == 0.0 {
-        io::write_all(1, b" 0");
+        text(out, used, b" 0");
         return;
     }
-    io::write_all(1, b" ");
-    io::print_hex(1, f64::to_bits(x), 16);
+    let mut digits = [0u8; 16];
+    let k = io::hex(f64::to_bits(x), 16, &mut digits);
+    text(out, used, b" ");
+    text(out, used, &digits[..k]);
 }
 
-pub(crate) fn corners(b: Aabb2D) {
-    number(b.min_x);
-    number(b.min_y);
-    number(b.max_x);
-    number(b.max_y);
+pub(crate) fn corners(out: &mut Buffer, used: &mut usize, b: Aabb2D) {
+    number(out, used, b.min_x);
+    number(out, used, b.min_y);
+    number(out, used, b.max_x);
+    number(out, used, b.max_y);
 }
 
 // Document 01's number of a refusal.
-pub(crate) fn refused(r: Refusal) {
+pub(crate) fn refused(out: &mut Buffer, used: &mut usize, r: Refusal) {
     match r {
-        Refusal::Unsound => text(b"refused 1"),
-        Refusal::ShortRoom => text(b"refused 8"),
-        Refusal::DeadKey => text(b"refused 10"),
-        Refusal::Full => text(b"refused 11"),
+        Refusal::Unsound => text(out, used, b"refused 1"),
+        Refusal::ShortRoom => text(out, used, b"refused 8"),
+        Refusal::DeadKey => text(out, used, b"refused 10"),
+        Refusal::Full => text(out, used, b"refused 11"),
     }
 }
 
-pub(crate) fn answer(a: Answer) {
+pub(crate) fn answer(out: &mut Buffer, used: &mut usize, a: Answer) {
     match a {
-        Answer::Done => text(b"ok"),
-        Answer::Refused(r) => refused(r),
+        Answer::Done => text(out, used, b"ok"),
+        Answer::Refused(r) => refused(out, used, r),
     }
 }
 
@@ -65,22 +101,22 @@ pub(crate) fn at_most(n: usize) -> usize
 }
 
 // A space, a key, a space, and its payload.
-fn entry(room: &[u32; 2048], i: usize)
+fn entry(out: &mut Buffer, used: &mut usize, room: &[u32; 2048], i: usize)
     requires { ⌜ i < 512 ⌝ }
 {
-    text(b" ");
-    pair(room[i * 4], room[i * 4 + 1]);
-    text(b" ");
-    pair(room[i * 4 + 2], room[i * 4 + 3]);
+    text(out, used, b" ");
+    pair(out, used, room[i * 4], room[i * 4 + 1]);
+    text(out, used, b" ");
+    pair(out, used, room[i * 4 + 2], room[i * 4 + 3]);
 }
 
 // The entries of a query, four numbers each: key and payload.
-pub(crate) fn entries(room: &[u32; 2048], n: usize) {
-    count(n);
+pub(crate) fn entries(out: &mut Buffer, used: &mut usize, room: &[u32; 2048], n: usize) {
+    count(out, used, n);
     let most = at_most(n);
     let mut i = 0;
     while i < most {
-        entry(room, i);
+        entry(out, used, room, i);
         i += 1;
     }
 }

@@ -31,8 +31,8 @@ fn with_box(u: Joined, b: Aabb2D) -> Joined
     }
 }
 
-// Inner: a box of lent room.
-pub fn box_in(room: &[f64], i: usize) -> Aabb2D
+// A box of lent room.
+fn box_in(room: &[f64], i: usize) -> Aabb2D
     requires { ⌜ 4 * i + 4 ≤ length (now room) ⌝ }
     ensures { λ r. ⌜ r ≡ boxAt (now (room .entry)) i ⌝ }
 {

@@ -8,10 +8,10 @@ use Rattle.index_calls.proofs.feed.Statement.{statement}
 use Rattle.index_calls.proofs.feed.Tie as tie
 
 abbrev Inv-loop : tie.InvT-loop
-Inv-loop space₀ block s₀ at₀ space s at = length space ≡ length space₀
+Inv-loop out₀ used₀ space₀ block s₀ at₀ out used space s at = length space ≡ length space₀
 
 abbrev μ-loop : tie.MeasureT-loop
-μ-loop space₀ block s₀ at₀ space s at = length block + 1 - at
+μ-loop out₀ used₀ space₀ block s₀ at₀ out used space s at = length block + 1 - at
 
 loop-holds : tie.Need-loop-holds Inv-loop μ-loop
 loop-holds c = search needs

@@ -5,10 +5,10 @@ use Rattle.index_calls.proofs.damage.print_boxes.Statement.{statement}
 use Rattle.index_calls.proofs.damage.print_boxes.Tie as tie
 
 abbrev Inv-loop : tie.InvT-loop
-Inv-loop room n most i₀ i = Unit {0}
+Inv-loop out₀ used₀ room n most i₀ out used i = Unit {0}
 
 abbrev μ-loop : tie.MeasureT-loop
-μ-loop room n most i₀ i = 512 - i
+μ-loop out₀ used₀ room n most i₀ out used i = 512 - i
 
 count-requires : tie.Need-count-requires Inv-loop μ-loop
 count-requires c κs = search needs
@@ -19,8 +19,8 @@ at-most-requires c κs = search needs
 loop-holds : tie.Need-loop-holds Inv-loop μ-loop
 loop-holds c = search needs
 
-box-of-requires : tie.Need-box-of-requires Inv-loop μ-loop
-box-of-requires c κs = search needs
+box-at-requires : tie.Need-box-at-requires Inv-loop μ-loop
+box-at-requires c κs = search needs
 
 corners-requires : tie.Need-corners-requires Inv-loop μ-loop
 corners-requires c κs = search needs
@@ -46,7 +46,7 @@ print-boxes-spec =
     count-requires
     at-most-requires
     loop-holds
-    box-of-requires
+    box-at-requires
     corners-requires
     add-i
     loop-less

@@ -5,10 +5,10 @@ use Rattle.index_calls.proofs.damage.print_pairs.Statement.{statement}
 use Rattle.index_calls.proofs.damage.print_pairs.Tie as tie
 
 abbrev Inv-loop : tie.InvT-loop
-Inv-loop old new n most i₀ i = Unit {0}
+Inv-loop out₀ used₀ old new n most i₀ out used i = Unit {0}
 
 abbrev μ-loop : tie.MeasureT-loop
-μ-loop old new n most i₀ i = 512 - i
+μ-loop out₀ used₀ old new n most i₀ out used i = 512 - i
 
 count-requires : tie.Need-count-requires Inv-loop μ-loop
 count-requires c κs = search needs
@@ -19,14 +19,14 @@ at-most-requires c κs = search needs
 loop-holds : tie.Need-loop-holds Inv-loop μ-loop
 loop-holds c = search needs
 
-box-of-requires : tie.Need-box-of-requires Inv-loop μ-loop
-box-of-requires c κs = search needs
+box-at-requires : tie.Need-box-at-requires Inv-loop μ-loop
+box-at-requires c κs = search needs
 
 corners-requires : tie.Need-corners-requires Inv-loop μ-loop
 corners-requires c κs = search needs
 
-box-of-requires-2 : tie.Need-box-of-requires-2 Inv-loop μ-loop
-box-of-requires-2 c κs = search needs
+box-at-requires-2 : tie.Need-box-at-requires-2 Inv-loop μ-loop
+box-at-requires-2 c κs = search needs
 
 corners-requires-2 : tie.Need-corners-requires-2 Inv-loop μ-loop
 corners-requires-2 c κs = search needs
@@ -52,9 +52,9 @@ print-pairs-spec =
     count-requires
     at-most-requires
     loop-holds
-    box-of-requires
+    box-at-requires
     corners-requires
-    box-of-requires-2
+    box-at-requires-2
     corners-requires-2
     add-i
     loop-less

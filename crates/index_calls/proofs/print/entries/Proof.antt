@@ -5,10 +5,10 @@ use Rattle.index_calls.proofs.print.entries.Statement.{statement}
 use Rattle.index_calls.proofs.print.entries.Tie as tie
 
 abbrev Inv-loop : tie.InvT-loop
-Inv-loop room n most i₀ i = Unit {0}
+Inv-loop out₀ used₀ room n most i₀ out used i = Unit {0}
 
 abbrev μ-loop : tie.MeasureT-loop
-μ-loop room n most i₀ i = 512 - i
+μ-loop out₀ used₀ room n most i₀ out used i = 512 - i
 
 count-requires : tie.Need-count-requires Inv-loop μ-loop
 count-requires c κs = search needs

@@ -1,38 +1,48 @@
 -- `index_calls::print::number` is safe: bits are taken only of a number that equals itself. Assumes nothing.
 use borrow.Author.Needs.{needs}
-use Rattle.index_calls.proofs.Nan.{no-nan}
+use Rattle.words.proofs.Nan.{no-nan}
+use Rattle.words.proofs.Nan.{no-nan}
 use Rattle.index_calls.proofs.print.number.Statement.{statement}
 use Rattle.index_calls.proofs.print.number.Tie as tie
 
-slice-aggregate-write-all : tie.Need-slice-aggregate-write-all
-slice-aggregate-write-all c = search needs
+slice-aggregate-text : tie.Need-slice-aggregate-text
+slice-aggregate-text c = search needs
 
-write-all-requires : tie.Need-write-all-requires
-write-all-requires c κs = search needs
+text-requires : tie.Need-text-requires
+text-requires c κs = search needs
 
 returns : tie.Need-returns
 returns c = search needs
 
-slice-aggregate-write-all-2 : tie.Need-slice-aggregate-write-all-2
-slice-aggregate-write-all-2 c = search needs
+slice-aggregate-text-2 : tie.Need-slice-aggregate-text-2
+slice-aggregate-text-2 c = search needs
 
-write-all-requires-2 : tie.Need-write-all-requires-2
-write-all-requires-2 c κs = search needs
+text-requires-2 : tie.Need-text-requires-2
+text-requires-2 c κs = search needs
 
 returns-2 : tie.Need-returns-2
 returns-2 c = search needs
 
-slice-aggregate-write-all-3 : tie.Need-slice-aggregate-write-all-3
-slice-aggregate-write-all-3 c = search needs
+float-to-bits-hex : tie.Need-float-to-bits-hex
+float-to-bits-hex c = no-nan (c .before .before .args .x) (c .before .if1 .left)
 
-write-all-requires-3 : tie.Need-write-all-requires-3
-write-all-requires-3 c κs = search needs
+hex-requires : tie.Need-hex-requires
+hex-requires c κs = search needs
 
-float-to-bits-print-hex : tie.Need-float-to-bits-print-hex
-float-to-bits-print-hex c = no-nan (c .before .before .before .before .args .x) (c .before .before .before .if1 .left)
+slice-aggregate-text-3 : tie.Need-slice-aggregate-text-3
+slice-aggregate-text-3 c = search needs
 
-print-hex-requires : tie.Need-print-hex-requires
-print-hex-requires c κs = search needs
+text-requires-3 : tie.Need-text-requires-3
+text-requires-3 c κs = search needs
+
+array-share-prefix-digits : tie.Need-array-share-prefix-digits
+array-share-prefix-digits c = search needs
+
+slice-aggregate-text-4 : tie.Need-slice-aggregate-text-4
+slice-aggregate-text-4 c = search needs
+
+text-requires-4 : tie.Need-text-requires-4
+text-requires-4 c κs = search needs
 
 returns-3 : tie.Need-returns-3
 returns-3 c = search needs
@@ -41,14 +51,17 @@ pub number-spec : {M : Type 1} → statement M
 number-spec =
     tie.close
     (tie.spec
-    slice-aggregate-write-all
-    write-all-requires
+    slice-aggregate-text
+    text-requires
     returns
-    slice-aggregate-write-all-2
-    write-all-requires-2
+    slice-aggregate-text-2
+    text-requires-2
     returns-2
-    slice-aggregate-write-all-3
-    write-all-requires-3
-    float-to-bits-print-hex
-    print-hex-requires
+    float-to-bits-hex
+    hex-requires
+    slice-aggregate-text-3
+    text-requires-3
+    array-share-prefix-digits
+    slice-aggregate-text-4
+    text-requires-4
     returns-3)

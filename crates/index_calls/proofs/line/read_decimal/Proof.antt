@@ -1,10 +1,10 @@
--- `index_calls::words::read_decimal` is safe and ends. The invariant: the number so far stays small. The measure is what is left of the word.
+-- `index_calls::line::read_decimal` is safe and ends. The invariant: the number so far stays small. The measure is what is left of the word.
 -- Assumes nothing.
 use Prim.Native.Nat.{_-_, _≤_}
 use borrow.Author.Needs.{needs}
 use lib.ListN.{length}
-use Rattle.index_calls.proofs.words.read_decimal.Statement.{statement}
-use Rattle.index_calls.proofs.words.read_decimal.Tie as tie
+use Rattle.index_calls.proofs.line.read_decimal.Statement.{statement}
+use Rattle.index_calls.proofs.line.read_decimal.Tie as tie
 
 abbrev Inv-loop : tie.InvT-loop
 Inv-loop s n₀ i₀ n i = n ≤ 4294967299

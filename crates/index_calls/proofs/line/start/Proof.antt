@@ -1,10 +1,10 @@
--- `index_calls::words::start` meets its contract: the position lies within the line. The measure is the number of words that are left.
+-- `index_calls::line::start` meets its contract: the position lies within the line. The measure is the number of words that are left.
 -- Assumes nothing.
 use Prim.Native.Nat.{_≤_}
 use borrow.Author.Needs.{needs}
 use lib.ListN.{length}
-use Rattle.index_calls.proofs.words.start.Statement.{statement}
-use Rattle.index_calls.proofs.words.start.Tie as tie
+use Rattle.index_calls.proofs.line.start.Statement.{statement}
+use Rattle.index_calls.proofs.line.start.Tie as tie
 
 abbrev Inv-loop : tie.InvT-loop
 Inv-loop line word at₀ left₀ at left = at ≤ length line

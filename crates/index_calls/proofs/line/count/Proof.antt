@@ -1,10 +1,10 @@
--- `index_calls::words::count` is safe and ends. The invariant: the count is at most the position, which is at most one past the line.
+-- `index_calls::line::count` is safe and ends. The invariant: the count is at most the position, which is at most one past the line.
 -- The measure is what is left of the line. Assumes nothing.
 use Prim.Native.Nat.{_+_, _-_, _≤_}
 use borrow.Author.Needs.{needs}
 use lib.ListN.{length}
-use Rattle.index_calls.proofs.words.count.Statement.{statement}
-use Rattle.index_calls.proofs.words.count.Tie as tie
+use Rattle.index_calls.proofs.line.count.Statement.{statement}
+use Rattle.index_calls.proofs.line.count.Tie as tie
 
 abbrev Inv-loop : tie.InvT-loop
 Inv-loop line n₀ at₀ n at = (n ≤ at) × (at ≤ length line + 1)

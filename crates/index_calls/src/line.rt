@@ -1,10 +1,8 @@
 // A line's words, one space apart, and what they stand for. A word that is missing is empty, and no number is.
-ghost use mathlib.Core.Path.{_≡_};
 ghost use Prim.Native.Nat.{_≤_};
 ghost use lib.ListN.{length};
-ghost use lib.Ieee.{binary64, nanBits, ofBits};
-ghost use Rattle.io.specs.Counts.{Counts};
 use boxes::Aabb2D;
+use words::Word;
 
 // A 32-bit whole number, if `is_read`.
 pub(crate) struct Whole {
@@ -29,13 +27,6 @@ pub(crate) struct Pair {
 pub(crate) struct Corners {
     pub(crate) is_read: bool,
     pub(crate) aabb: Aabb2D,
-}
-
-// At most the length of `s`.
-pub(crate) fn within(n: usize, s: &[u8]) -> usize
-    ensures { λ r. ⌜ Counts r (now (s .entry)) ⌝ }
-{
-    if n <= s.len() { n } else { s.len() }
 }
 
 // How many words a line has: one more than spaces.
@@ -67,42 +58,10 @@ fn start(line: &[u8], word: usize) -> usize
     at
 }
 
-// Which of `names`, parted by spaces, is `name`: 0 is the first, and their number stands for none.
-fn place(names: &[u8], name: &[u8]) -> usize {
-    let mut k = 0;
-    let mut at = 0;
-    while at < names.len() {
-        let end = bytes::scan::find(names, at, names.len(), b' ');
-        if check::same(name, &names[at..end]) {
-            return k;
-        }
-        k += 1;
-        at = end + 1;
-    }
-    k
-}
-
 // Which of `names` is a line's first word.
 pub(crate) fn name(names: &[u8], line: &[u8]) -> usize {
     let end = bytes::scan::find(line, 0, line.len(), b' ');
-    place(names, &line[0..end])
-}
-
-// A digit's value, and 16 for what is none.
-fn digit(b: u8) -> u64 {
-    if b < b'0' {
-        return 16;
-    }
-    if b <= b'9' {
-        return (b - b'0') as u64;
-    }
-    if b < b'a' {
-        return 16;
-    }
-    if b <= b'f' {
-        return (b - b'a') as u64 + 10;
-    }
-    16
+    words::place(names, &line[0..end])
 }
 
 fn no_whole() -> Whole {
@@ -117,7 +76,7 @@ fn read_decimal(s: &[u8]) -> Whole {
     let mut n = 0u64;
     let mut i = 0;
     while i < s.len() {
-        let d = digit(s[i]);
+        let d = words::digit(s[i]);
         if d > 9 {
             return no_whole();
         }
@@ -162,48 +121,17 @@ fn read_pair(s: &[u8]) -> Pair {
     }
 }
 
-// The pattern is a NaN's: without its sign it is above an infinity's.
-fn is_nan(w: u64) -> bool
-    ensures { λ r. ⌜ r ≡ nanBits binary64 w ⌝ }
-{
-    w % 0x8000_0000_0000_0000 > 0x7ff0_0000_0000_0000
-}
-
-// The number of a pattern. Every NaN's pattern gives the one NaN.
-fn float(w: u64) -> f64
-    ensures { λ r. ⌜ r ≡ ofBits binary64 w ⌝ }
-{
-    if is_nan(w) {
-        return 0.0 / 0.0;
-    }
-    f64::from_bits(w)
-}
-
-fn no_number() -> Number {
-    Number {
-        is_read: false,
-        value: 0.0,
-    }
-}
-
-// The 16 hexadecimal digits of a pattern, lowercase.
+// The f64 of a pattern.
 fn read_number(s: &[u8]) -> Number {
-    if s.len() != 16 {
-        return no_number();
-    }
-    let mut bits = 0u64;
-    let mut i = 0;
-    while i < s.len() {
-        let d = digit(s[i]);
-        if d > 15 {
-            return no_number();
-        }
-        bits = (bits << 4) | d;
-        i += 1;
-    }
-    Number {
-        is_read: true,
-        value: float(bits),
+    match words::pattern(s) {
+        Word::Bits(w) => Number {
+            is_read: true,
+            value: words::float(w),
+        },
+        Word::None => Number {
+            is_read: false,
+            value: 0.0,
+        },
     }
 }
 
