@@ -432,18 +432,12 @@ pub fn query_rect(ix: Index, rect: Aabb2D, room: &mut [u32]) -> Queried
     if room.len() < 2048 {
         return Queried::Refused(Refusal::ShortRoom);
     }
-    let generation = ix.generation;
-    let mark = ix.mark;
-    let payload = ix.payload;
-    let backend = ix.backend;
-    let present = backend.present;
-    let boxes = backend.boxes;
     Queried::Entries(index_query::visit_rect(
-        &present,
-        &boxes,
-        &mark,
-        &generation,
-        &payload,
+        &ix.backend.present,
+        &ix.backend.boxes,
+        &ix.mark,
+        &ix.generation,
+        &ix.payload,
         rect,
         room,
     ))
