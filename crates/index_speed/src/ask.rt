@@ -115,5 +115,8 @@ pub(crate) fn phases(rounds: u32) {
     point_phase(b"point_512", 512, rounds);
     rect_phase(b"rect_64", 64, rounds);
     rect_phase(b"rect_512", 512, rounds);
+}
+
+pub(crate) fn own_phase(rounds: u32) {
     refusal_phase(b"own_refusal_512", 512, rounds);
 }

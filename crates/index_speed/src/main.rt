@@ -14,4 +14,6 @@ fn main() {
     fill::phases(rounds);
     change::phases(rounds);
     ask::phases(rounds);
+    change::own_phase(rounds);
+    ask::own_phase(rounds);
 }
