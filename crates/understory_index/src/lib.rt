@@ -108,7 +108,16 @@ pub fn insert(ix: Index, aabb: Aabb2D, payload: NodeId) -> AfterInsert
     let frees = ix.frees;
     let queued = ix.queued;
     let used = ix.used;
-    if !index_sound::is_sound(&ix.mark, &ix.free, frees, &ix.dirty, queued, used) {
+    let mut generation = ix.generation;
+    let mut mark = ix.mark;
+    let mut payloads = ix.payload;
+    let mut boxes = ix.aabb;
+    let mut kept = ix.kept;
+    let prev = ix.prev;
+    let free = ix.free;
+    let mut dirty = ix.dirty;
+    let backend = ix.backend;
+    if !index_sound::is_sound(&mark, &free, frees, &dirty, queued, used) {
         return AfterInsert {
             answer: Inserted::Refused(Refusal::Unsound),
             index: ix,
@@ -120,15 +129,6 @@ pub fn insert(ix: Index, aabb: Aabb2D, payload: NodeId) -> AfterInsert
             index: ix,
         };
     }
-    let mut generation = ix.generation;
-    let mut mark = ix.mark;
-    let mut payloads = ix.payload;
-    let mut boxes = ix.aabb;
-    let mut kept = ix.kept;
-    let prev = ix.prev;
-    let free = ix.free;
-    let mut dirty = ix.dirty;
-    let backend = ix.backend;
     let t = index_entries::next_slot(&generation, &free, frees, used);
     index_entries::store_entry(
         &mut generation,
@@ -167,27 +167,6 @@ pub fn update(ix: Index, key: Key, aabb: Aabb2D) -> After
     let frees = ix.frees;
     let queued = ix.queued;
     let used = ix.used;
-    if !index_sound::is_sound(&ix.mark, &ix.free, frees, &ix.dirty, queued, used) {
-        return After {
-            answer: Answer::Refused(Refusal::Unsound),
-            index: ix,
-        };
-    }
-    let found = index_entries::look_up(
-        &ix.generation,
-        &ix.mark,
-        &ix.payload,
-        &ix.aabb,
-        &ix.kept,
-        &ix.prev,
-        key,
-    );
-    let Found::Live(e) = found else {
-        return After {
-            answer: Answer::Refused(Refusal::DeadKey),
-            index: ix,
-        };
-    };
     let generation = ix.generation;
     let mut mark = ix.mark;
     let payload = ix.payload;
@@ -197,6 +176,19 @@ pub fn update(ix: Index, key: Key, aabb: Aabb2D) -> After
     let free = ix.free;
     let mut dirty = ix.dirty;
     let backend = ix.backend;
+    if !index_sound::is_sound(&mark, &free, frees, &dirty, queued, used) {
+        return After {
+            answer: Answer::Refused(Refusal::Unsound),
+            index: ix,
+        };
+    }
+    let found = index_entries::look_up(&generation, &mark, &payload, &boxes, &kept, &prev, key);
+    let Found::Live(e) = found else {
+        return After {
+            answer: Answer::Refused(Refusal::DeadKey),
+            index: ix,
+        };
+    };
     let x = key.0;
     let length = index_entries::update_entry(
         &mut mark,
@@ -235,27 +227,6 @@ pub fn remove(ix: Index, key: Key) -> After
     let frees = ix.frees;
     let queued = ix.queued;
     let used = ix.used;
-    if !index_sound::is_sound(&ix.mark, &ix.free, frees, &ix.dirty, queued, used) {
-        return After {
-            answer: Answer::Refused(Refusal::Unsound),
-            index: ix,
-        };
-    }
-    let found = index_entries::look_up(
-        &ix.generation,
-        &ix.mark,
-        &ix.payload,
-        &ix.aabb,
-        &ix.kept,
-        &ix.prev,
-        key,
-    );
-    let Found::Live(e) = found else {
-        return After {
-            answer: Answer::Refused(Refusal::DeadKey),
-            index: ix,
-        };
-    };
     let generation = ix.generation;
     let mut mark = ix.mark;
     let payload = ix.payload;
@@ -265,6 +236,19 @@ pub fn remove(ix: Index, key: Key) -> After
     let mut free = ix.free;
     let mut dirty = ix.dirty;
     let backend = ix.backend;
+    if !index_sound::is_sound(&mark, &free, frees, &dirty, queued, used) {
+        return After {
+            answer: Answer::Refused(Refusal::Unsound),
+            index: ix,
+        };
+    }
+    let found = index_entries::look_up(&generation, &mark, &payload, &boxes, &kept, &prev, key);
+    let Found::Live(e) = found else {
+        return After {
+            answer: Answer::Refused(Refusal::DeadKey),
+            index: ix,
+        };
+    };
     let x = key.0;
     let m = e.mark;
     let lengths = index_entries::remove_entry(
@@ -350,7 +334,16 @@ pub fn commit(
     let frees = ix.frees;
     let queued = ix.queued;
     let used = ix.used;
-    if !index_sound::is_sound(&ix.mark, &ix.free, frees, &ix.dirty, queued, used) {
+    let generation = ix.generation;
+    let mut mark = ix.mark;
+    let payload = ix.payload;
+    let aabb = ix.aabb;
+    let mut kept = ix.kept;
+    let prev = ix.prev;
+    let mut free = ix.free;
+    let dirty = ix.dirty;
+    let backend = ix.backend;
+    if !index_sound::is_sound(&mark, &free, frees, &dirty, queued, used) {
         return AfterCommit {
             answer: Committed::Refused(Refusal::Unsound),
             index: ix,
@@ -362,15 +355,6 @@ pub fn commit(
             index: ix,
         };
     }
-    let generation = ix.generation;
-    let mut mark = ix.mark;
-    let payload = ix.payload;
-    let aabb = ix.aabb;
-    let mut kept = ix.kept;
-    let prev = ix.prev;
-    let mut free = ix.free;
-    let dirty = ix.dirty;
-    let backend = ix.backend;
     let mut present = backend.present;
     let mut boxes = backend.boxes;
     let d = index_commit::commit_slots(
@@ -432,18 +416,12 @@ pub fn query_rect(ix: Index, rect: Aabb2D, room: &mut [u32]) -> Queried
     if room.len() < 2048 {
         return Queried::Refused(Refusal::ShortRoom);
     }
-    let generation = ix.generation;
-    let mark = ix.mark;
-    let payload = ix.payload;
-    let backend = ix.backend;
-    let present = backend.present;
-    let boxes = backend.boxes;
     Queried::Entries(index_query::visit_rect(
-        &present,
-        &boxes,
-        &mark,
-        &generation,
-        &payload,
+        &ix.backend.present,
+        &ix.backend.boxes,
+        &ix.mark,
+        &ix.generation,
+        &ix.payload,
         rect,
         room,
     ))

@@ -25,7 +25,7 @@ same-length c = search needs
 
 returns-3 : tie.Need-returns-3
 unfolding rectSlots
-returns-3 c = let A = c .before .before .before .before .before .before .before .before .before .before .before .before .before .before .before .before .before .before .before .before .before .before .before .args in let E = c .before .before .before .before .before .before .before .before .before .before .before .before .before .before .before .before .before .is-sound .ensures in let T = c .before .before .visit-rect .ensures in query-done (A .t1) (rectSlots (A .t1) (A .rect)) (A .room .now) (rw (← E) (c .before .before .before .before .before .before .before .before .before .before .before .before .before .before .before .before .if1 .left)) (le-ltb (length (A .room .now)) 2048 (c .before .before .before .before .before .before .before .before .before .before .before .before .before .before .before .if2 .left)) _ _ (T .0) (T .1)
+returns-3 c = let L = c .before .before .before .before .before .before .before .before .before .before in let A = L .before .before .before .before .before .before .before .before .args in let E = L .before .before .is-sound .ensures in let T = c .before .before .visit-rect .ensures in query-done (A .t1) (rectSlots (A .t1) (A .rect)) (A .room .now) (rw (← E) (L .before .if1 .left)) (le-ltb (length (A .room .now)) 2048 (L .if2 .left)) _ _ (T .0) (T .1)
 
 pub query-rect-spec : {M : Type 1} → statement M
 query-rect-spec =
