@@ -197,7 +197,7 @@ pub fn update(ix: Index, key: Key, aabb: Aabb2D) -> After
     let free = ix.free;
     let mut dirty = ix.dirty;
     let backend = ix.backend;
-    let x = key.0;
+    let x = key.0; // the slot to update
     let length = index_entries::update_entry(
         &mut mark,
         &mut boxes,
@@ -222,7 +222,7 @@ pub fn update(ix: Index, key: Key, aabb: Aabb2D) -> After
             free,
             frees,
             dirty,
-            queued: length,
+            queued: length, // longer where the entry had no mark
             backend,
         },
     }
@@ -300,7 +300,7 @@ pub fn clear(ix: Index) -> After
     ensures { λ r. ⌜ r ≡ spec.clearCall ix ⌝ }
 {
     let frees = ix.frees;
-    let queued = ix.queued;
+    let queued = ix.queued; // asked for soundness alone
     let used = ix.used;
     if !index_sound::is_sound(&ix.mark, &ix.free, frees, &ix.dirty, queued, used) {
         return After {
@@ -309,7 +309,7 @@ pub fn clear(ix: Index) -> After
         };
     }
     After {
-        answer: Answer::Done,
+        answer: Answer::Done, // whatever it held
         index: fresh(),
     }
 }
