@@ -1,10 +1,13 @@
--- An entry without a mark has its own box in the backend: a commit keeps that.
+-- The backend has no box for an empty slot and for an entry that is only added, and one for every other entry; an entry without a mark has
+-- its own box there. A commit keeps that.
 use mathlib.Core.Path.{_≡_, refl, sym, _∙_, subst}
+use mathlib.Core.Bool.{Bool, _||_}
 use mathlib.Core.List.{List, [], _∷_}
 use Prim.Native.Nat.{ℕ, zero, suc, _+_, _*_, _≤_, _<_}
 use native.Mathlib.Numerals.{add-one}
 use native.Mathlib.Omega.{arith}
 use native.Mathlib.Decide.{ℕ-discrete}
+use lib.Dec.{eqb}
 use lib.ListN.{length, take, getD, set, length-set}
 use lib.Seq.{getD-set-same, getD-set-other}
 use lib.Ieee.{Float}
@@ -18,11 +21,16 @@ use Rattle.index_commit.proofs.Keep.{other}
 abbrev pub Has : List ℕ → List Float → List Float → ℕ → Type 0
 Has present boxes aabb x = (getD present x 0 ≡ 0 → ⊥) × (boxAt boxes x ≡ boxAt aabb x)
 
+-- the mark of an empty slot, or of an entry that is only added
+abbrev pub unseen : ℕ → Bool
+unseen m = eqb m 0 || eqb m 2
+
 pub record Agree (mark present : List ℕ) (boxes aabb : List Float) : Type 0 where
   pub mark-whole : length mark ≡ 512
   pub present-whole : length present ≡ 512
   pub boxes-whole : length boxes ≡ 2048
   pub own : (x : ℕ) → getD mark x 0 ≡ 1 → Has present boxes aabb x
+  pub none : (x : ℕ) → eqb (getD present x 0) 0 ≡ unseen (getD mark x 0)
 
 module _ (aabb : List Float) (mark present : List ℕ) (boxes : List Float) (A : Agree mark present boxes aabb) (x : ℕ) (h : x < 512) where
   -- another slot's box and flag are as they were
@@ -44,6 +52,22 @@ module _ (aabb : List Float) (mark present : List ℕ) (boxes : List Float) (A :
   here moves e = stored
   here drops e = let m = A .mark-whole in absurd (omega (arith, sym (getD-set-same mark x 0 0 (omega arith)) ∙ e))
 
+  -- no box where the slot is empty or only added: at the slot, and at another
+  none-here : (a : Act) → eqb (getD (presentStep a present x) x 0) 0 ≡ unseen (getD (markStep a mark x) x 0)
+  none-here a = let m = A .mark-whole in let p = A .present-whole in go a (omega arith) (omega arith)
+    where
+      go : (a : Act) → x < length present → x < length mark → eqb (getD (presentStep a present x) x 0) 0 ≡ unseen (getD (markStep a mark x) x 0)
+      go rests p m = A .none x
+      go adds p m = rw (getD-set-same present x 1 0 p, getD-set-same mark x 1 0 m)
+      go moves p m = rw (getD-set-same present x 1 0 p, getD-set-same mark x 1 0 m)
+      go drops p m = rw (getD-set-same present x 0 0 p, getD-set-same mark x 0 0 m)
+
+  none-there : (a : Act) (y : ℕ) → (y ≡ x → ⊥) → eqb (getD (presentStep a present x) y 0) 0 ≡ unseen (getD (markStep a mark x) y 0)
+  none-there rests y n = A .none y
+  none-there adds y n = rw (getD-set-other present x y 1 0 n, getD-set-other mark x y 1 0 n) (A .none y)
+  none-there moves y n = rw (getD-set-other present x y 1 0 n, getD-set-other mark x y 1 0 n) (A .none y)
+  none-there drops y n = rw (getD-set-other present x y 0 0 n, getD-set-other mark x y 0 0 n) (A .none y)
+
   lengths : (a : Act) → (length (markStep a mark x) ≡ 512) × (length (presentStep a present x) ≡ 512) × (length (boxesStep a boxes x (boxAt aabb x)) ≡ 2048)
   lengths rests = (A .mark-whole, A .present-whole, A .boxes-whole)
   lengths adds = (length-set mark x 1 ∙ A .mark-whole, length-set present x 1 ∙ A .present-whole, box-length boxes x (boxAt aabb x) ∙ A .boxes-whole)
@@ -61,6 +85,7 @@ module _ (aabb : List Float) (mark present : List ℕ) (boxes : List Float) (A :
           | yes w ↦ rw w (here a (rw w at e))
           | no n ↦ elsewhere a y n (A .own y (sym (other mark x a y n) ∙ e))
         ];
+        none = λ y. elim (ℕ-discrete y x) [ yes w ↦ rw w (none-here a) | no n ↦ none-there a y n ];
       }
 
 -- over the whole queue, each number of which is a slot

@@ -149,6 +149,14 @@ module _ (mark free : List ℕ) (frees : ℕ) (dirty : List ℕ) (n used : ℕ) 
         let u = C .used-fits in
         elim (ℕ-discrete frees 0) [ yes e ↦ rw (slot-unused free free frees used e) (room e) | no m ↦ rw (slot-last free free frees used m) (omega (arith, last-empty m .0)) ]
 
+    -- it is an empty slot
+    pub slot-empty : getD mark s 0 ≡ 0
+    slot-empty =
+        elim (ℕ-discrete frees 0) [
+          | yes e ↦ rw (slot-unused free free frees used e) (C .slot used .past (omega arith))
+          | no m ↦ rw (slot-last free free frees used m) (last-empty m .1)
+        ]
+
     pub keep-insert : CountOf (set mark s 2) free (frees - 1) (queueWith dirty n s) (lengthWith dirty n s) (usedFor frees used)
     keep-insert =
         elim (ℕ-discrete frees 0) [ yes e ↦ unused e | no m ↦ again m ]

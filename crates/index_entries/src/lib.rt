@@ -1,7 +1,7 @@
 // Entries of the index over lent tables: understory_index's index.rs, its inner steps. The calls by value and the box tree stand on these.
 ghost use mathlib.Core.Path.{_≡_};
 ghost use mathlib.Core.Bool.{true, false, cond};
-ghost use Prim.Native.Nat.{_+_, _<_, _≤_};
+ghost use Prim.Native.Nat.{_+_, _-_, _<_, _≤_};
 ghost use lib.ListN.{length, set, getD};
 ghost use Rattle.cells.specs.Cells.{boxAt, putBox, idAt, putId};
 ghost use Rattle.index_entries.specs.Entries as spec;
@@ -45,8 +45,8 @@ pub fn next_generation(generation: u32) -> u32
     if next == 0 { 1 } else { next }
 }
 
-// Inner: whether a slot stands in the queue.
-pub fn is_queued(dirty: &[u32; 512], queued: usize, x: u32) -> bool
+// Whether a slot stands in the queue.
+fn is_queued(dirty: &[u32; 512], queued: usize, x: u32) -> bool
     requires { ⌜ (queued ≤ 512) × (length (now dirty) ≡ 512) ⌝ }
     ensures { λ r. ⌜ r ≡ spec.stands x (now (dirty .entry)) queued ⌝ }
 {
@@ -59,8 +59,8 @@ pub fn is_queued(dirty: &[u32; 512], queued: usize, x: u32) -> bool
     found
 }
 
-// Inner: the slot is put last in the queue, unless it stands there already. The queue's new length is returned.
-pub fn queue_dirty_slot(dirty: &mut [u32; 512], queued: usize, x: u32) -> usize
+// The slot is put last in the queue, unless it stands there already. The queue's new length is returned.
+fn queue_dirty_slot(dirty: &mut [u32; 512], queued: usize, x: u32) -> usize
     requires { ⌜ (queued ≤ 512) × (length (now dirty) ≡ 512) × (spec.stands x (now dirty) queued ≡ false → queued < 512) ⌝ }
     ensures { λ r. ⌜ (now (dirty .exit) ≡ spec.queueWith (now (dirty .entry)) queued x) × (r ≡ spec.lengthWith (now (dirty .entry)) queued x) ⌝ }
 {
@@ -126,13 +126,13 @@ pub fn look_up<'a>(
 }
 
 // The slot that an insert takes, and its generation there.
-pub struct Taken {
+struct Taken {
     pub slot: u32,
     pub generation: u32,
 }
 
-// Inner: the last freed slot, its generation one on; else the next unused slot, generation 1.
-pub fn next_slot<'a>(
+// The last freed slot, its generation one on; else the next unused slot, generation 1.
+fn next_slot<'a>(
     generation: &'a [u32; 512],
     free: &'a [u32; 512],
     frees: usize,
@@ -154,8 +154,8 @@ pub fn next_slot<'a>(
     }
 }
 
-// Inner: stores a new entry, marked added, at a slot.
-pub fn store_entry(
+// Stores a new entry, marked added, at a slot.
+fn store_entry(
     generation: &mut [u32; 512],
     mark: &mut [u8; 512],
     payload: &mut [u32; 1024],
@@ -178,6 +178,70 @@ pub fn store_entry(
     cells::put_id(payload, x, p);
     cells::put_box(aabb, x, b);
     kept[x] = 0;
+}
+
+// How many slots are used once an insert has taken its slot.
+fn used_after(frees: usize, used: usize) -> usize
+    requires { ⌜ (frees ≡ 0 → used < 512) ⌝ }
+    ensures { λ r. ⌜ r ≡ spec.usedFor frees used ⌝ }
+{
+    if frees == 0 { used + 1 } else { used }
+}
+
+// How many slots stay in the free list then.
+fn frees_after(frees: usize) -> usize
+    ensures { λ r. ⌜ r ≡ frees - 1 ⌝ }
+{
+    if frees == 0 { 0 } else { frees - 1 }
+}
+
+// What an insert leaves beside the tables: where the entry stands, and the lengths.
+pub struct Entered {
+    pub slot: u32,
+    pub generation: u32,
+    pub used: usize,
+    pub frees: usize,
+    pub queued: usize,
+}
+
+// Inner: a new entry, marked added and queued, at the last freed slot, else at the next unused one.
+pub fn insert_entry(
+    generation: &mut [u32; 512],
+    mark: &mut [u8; 512],
+    payload: &mut [u32; 1024],
+    aabb: &mut [f64; 2048],
+    kept: &mut [u8; 512],
+    dirty: &mut [u32; 512],
+    free: &[u32; 512],
+    used: usize,
+    frees: usize,
+    queued: usize,
+    b: Aabb2D,
+    p: NodeId,
+) -> Entered
+    requires { ⌜ (used ≤ 512) × (frees ≤ 512) × (spec.slotFor (now free) frees used < 512) × (queued ≤ 512) × (length (now dirty) ≡ 512) × (spec.stands (spec.slotFor (now free) frees used) (now dirty) queued ≡ false → queued < 512) ⌝ }
+    ensures slots { λ r. ⌜ r .slot ≡ spec.slotFor (now (free .entry)) frees used ⌝ }
+    ensures ages { λ r. ⌜ r .generation ≡ spec.generationFor (now (generation .entry)) (now (free .entry)) frees used ⌝ }
+    ensures generations { λ r. ⌜ now (generation .exit) ≡ set (now (generation .entry)) (r .slot) (r .generation) ⌝ }
+    ensures marks { λ r. ⌜ now (mark .exit) ≡ set (now (mark .entry)) (r .slot) 2 ⌝ }
+    ensures payloads { λ r. ⌜ now (payload .exit) ≡ putId (now (payload .entry)) (r .slot) p ⌝ }
+    ensures boxes { λ r. ⌜ now (aabb .exit) ≡ putBox (now (aabb .entry)) (r .slot) b ⌝ }
+    ensures previous { λ r. ⌜ now (kept .exit) ≡ set (now (kept .entry)) (r .slot) 0 ⌝ }
+    ensures used_length { λ r. ⌜ r .used ≡ spec.usedFor frees used ⌝ }
+    ensures free_length { λ r. ⌜ r .frees ≡ frees - 1 ⌝ }
+    ensures queues { λ r. ⌜ now (dirty .exit) ≡ spec.queueWith (now (dirty .entry)) queued (r .slot) ⌝ }
+    ensures queue_length { λ r. ⌜ r .queued ≡ spec.lengthWith (now (dirty .entry)) queued (r .slot) ⌝ }
+{
+    let t = next_slot(generation, free, frees, used);
+    store_entry(generation, mark, payload, aabb, kept, t, b, p);
+    let length = queue_dirty_slot(dirty, queued, t.slot);
+    Entered {
+        slot: t.slot,
+        generation: t.generation,
+        used: used_after(frees, used),
+        frees: frees_after(frees),
+        queued: length,
+    }
 }
 
 // Inner: gives a slot's entry another box. An entry without a mark keeps the box it had and is queued; an added one stays added. The

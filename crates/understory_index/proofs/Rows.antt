@@ -3,22 +3,26 @@ use mathlib.Core.Path.{_≡_, refl}
 use mathlib.Core.Bool.{true, false}
 use mathlib.Core.List.{List, [], _∷_}
 use Prim.Native.Nat.{ℕ, _+_}
-use lib.Ieee.{Float, binary64, round, units, odd, size, span, climb, eq, le, lt}
+use lib.IntN.{pos}
+use lib.ListN.{replicate, set}
+use lib.Ieee.{Float, nan, fin, binary64, round, units, odd, size, span, climb, eq, le, lt}
+use Rattle.numbers.specs.Rounded.{zero}
 use Rattle.boxes.specs.declared.Aabb2D.{Aabb2D}
 use Rattle.boxes.specs.declared.NodeId.{NodeId}
 use Rattle.boxes.specs.declared.Key.{Key}
-use Rattle.boxes.specs.Boxes.{aabb, aabbEq, overlaps}
+use Rattle.boxes.specs.Boxes.{aabb, aabbEq, containsPoint, overlaps}
 use Rattle.cells.specs.Cells.{boxAt, putBox, idAt, putId}
 use Rattle.counting.specs.Times.{times, every}
 use Rattle.counting.specs.Lists.{onceBelow}
 use Rattle.index_sound.specs.Sound.{soundOf}
 use Rattle.index_entries.specs.Entries.{nextGeneration, queueWith, lengthWith, markOf, previousAt, slotFor, usedFor, generationFor}
 use Rattle.index_commit.specs.Commit.{actOf, boxBefore, movedFrom, movedTo, workStep, work}
-use Rattle.index_query.specs.Query.{slots}
+use Rattle.index_query.specs.Query.{slots, entries}
 use Rattle.understory_index.specs.declared.Index.{Index}
 use Rattle.understory_index.specs.declared.Inserted.the-variants as inserts
 use Rattle.understory_index.specs.declared.Inserted.{Inserted}
-use Rattle.understory_index.specs.Index.{numberOf, refusal, keyOf, live, freshIndex, insertCall, updateCall, removeCall, clearCall, workOf, commitCall, rectSlots}
+use Rattle.understory_index.specs.declared.Committed.the-variants as commits
+use Rattle.understory_index.specs.Index.{numberOf, insertedNumber, answerNumber, committedNumber, queriedNumber, refusal, soundIndex, keyOf, live, freshIndex, insertCall, updateCall, removeCall, clearCall, workOf, commitCall, rectSlots, pointSlots, queryAnswer}
 use Rattle.understory_index.specs.Run.{Call, insert, update, remove, clear, commit, after, run}
 
 -- the whole number k, and a box from k to k + 1 both ways
@@ -43,9 +47,13 @@ first = keyOf 0 1
 pub done : List Call → Index
 done cs = run freshIndex cs
 
--- the damage that a commit after these calls finds: added, removed, moved from, moved to
+-- the damage that a commit finds: added, removed, moved from, moved to
+pub damage : Index → List (List Aabb2D)
+damage ix = let w = workOf ix in w .added ∷ w .removed ∷ w .old ∷ w .new ∷ []
+
+-- after these calls
 pub found : List Call → List (List Aabb2D)
-found cs = let w = workOf (done cs) in w .added ∷ w .removed ∷ w .old ∷ w .new ∷ []
+found cs = damage (done cs)
 
 -- the key that an insert after these calls gives
 pub next : List Call → Inserted
@@ -58,7 +66,7 @@ pub p11-p12 : (found (add 10 ∷ settle ∷ remove first ∷ update first (box 2
     × (rectSlots (done (add 10 ∷ settle ∷ remove first ∷ update first (box 20) ∷ settle ∷ [])) (box 20) ≡ 0 ∷ [])
     × (rectSlots (done (add 10 ∷ settle ∷ remove first ∷ update first (box 20) ∷ settle ∷ [])) (box 10) ≡ [])
     × (found (add 10 ∷ settle ∷ update first (box 20) ∷ remove first ∷ []) ≡ [] ∷ (box 10 ∷ []) ∷ [] ∷ [] ∷ [])
-unfolding num box node add settle first done found freshIndex run after insertCall updateCall removeCall commitCall workOf rectSlots slots soundOf onceBelow every times nextGeneration queueWith lengthWith markOf previousAt slotFor usedFor generationFor actOf boxBefore movedFrom movedTo workStep work boxAt putBox idAt putId aabbEq overlaps round units odd size span climb eq le lt
+unfolding num box node add settle first done damage found freshIndex run after insertCall updateCall removeCall commitCall workOf rectSlots slots soundOf onceBelow every times nextGeneration queueWith lengthWith markOf previousAt slotFor usedFor generationFor actOf boxBefore movedFrom movedTo workStep work boxAt putBox idAt putId aabbEq overlaps round units odd size span climb eq le lt
 p11-p12 = (refl, refl, refl, refl, refl)
 
 pub rows : (found (add 10 ∷ add 20 ∷ remove first ∷ add 30 ∷ []) ≡ (box 30 ∷ box 20 ∷ []) ∷ [] ∷ [] ∷ [] ∷ [])  -- an emptied slot keeps its place in the queue
@@ -76,8 +84,112 @@ pub rows : (found (add 10 ∷ add 20 ∷ remove first ∷ add 30 ∷ []) ≡ (bo
     × (rectSlots (done (add 10 ∷ settle ∷ update first (box 20) ∷ [])) (box 10) ≡ 0 ∷ [])  -- updated is visited at its old box
     × (rectSlots (done (add 10 ∷ settle ∷ [])) (box 11) ≡ 0 ∷ [])  -- boxes that share a corner meet
     × (nextGeneration 4294967295 ≡ 1)
-unfolding num box node add settle first done found next freshIndex run after insertCall updateCall removeCall clearCall commitCall workOf rectSlots slots soundOf onceBelow every times nextGeneration queueWith lengthWith markOf previousAt slotFor usedFor generationFor actOf boxBefore movedFrom movedTo workStep work boxAt putBox idAt putId aabbEq overlaps round units odd size span climb eq le lt
-rows = (refl, refl, refl, refl, refl, refl, refl, refl, refl, refl, refl, refl, refl, refl, refl)
+    × (live (done (add 10 ∷ remove first ∷ [])) first ≡ false)  -- added, then removed: the key is dead at once
+    × (done (add 10 ∷ remove first ∷ add 20 ∷ remove (keyOf 0 2) ∷ []) .queued ≡ 1)  -- and the slot stands in the queue once
+    × (answerNumber (removeCall (done (add 10 ∷ settle ∷ remove first ∷ [])) first .answer) ≡ 0)  -- a second removal is accepted
+    × (done (add 10 ∷ settle ∷ remove first ∷ remove first ∷ []) .queued ≡ 1)
+    × (found (add 0 ∷ add 1 ∷ add 2 ∷ add 3 ∷ settle ∷ remove (keyOf 2 1) ∷ remove first ∷ remove (keyOf 3 1) ∷ []) ≡ [] ∷ (box 2 ∷ box 0 ∷ box 3 ∷ []) ∷ [] ∷ [] ∷ [])  -- in the queue's order
+    × (next (add 0 ∷ add 1 ∷ add 2 ∷ add 3 ∷ settle ∷ remove (keyOf 2 1) ∷ remove first ∷ remove (keyOf 3 1) ∷ settle ∷ add 4 ∷ []) ≡ inserts.Key (keyOf 0 2))
+    × (next (add 0 ∷ add 1 ∷ add 2 ∷ add 3 ∷ settle ∷ remove (keyOf 2 1) ∷ remove first ∷ remove (keyOf 3 1) ∷ settle ∷ add 4 ∷ add 5 ∷ add 6 ∷ []) ≡ inserts.Key (keyOf 4 1))
+    × (rectSlots (done (add 10 ∷ settle ∷ update first (box 20) ∷ [])) (box 20) ≡ [])  -- updated is not visited at its new box
+    × (rectSlots (done (add 10 ∷ settle ∷ remove first ∷ [])) (box 10) ≡ 0 ∷ [])  -- removed is visited until the commit
+    × (let ix = done (add 10 ∷ settle ∷ remove first ∷ []) in entries (ix .generation) (ix .payload) (rectSlots ix (box 10)) ≡ 0 ∷ 1 ∷ 10 ∷ 1 ∷ [])  -- with its key and payload
+    × (rectSlots (done (add 10 ∷ settle ∷ remove first ∷ settle ∷ [])) (box 10) ≡ [])
+    × (rectSlots (done (add 10 ∷ remove first ∷ settle ∷ [])) (box 10) ≡ [])
+    × (live (done (add 10 ∷ settle ∷ clear ∷ add 20 ∷ [])) first ≡ true)  -- after clear an old key lives again
+unfolding num box node add settle first done damage found next answerNumber entries freshIndex run after insertCall updateCall removeCall clearCall commitCall workOf rectSlots slots soundOf onceBelow every times nextGeneration queueWith lengthWith markOf previousAt slotFor usedFor generationFor actOf boxBefore movedFrom movedTo workStep work boxAt putBox idAt putId aabbEq overlaps round units odd size span climb eq le lt
+rows = (refl, refl, refl, refl, refl, refl, refl, refl, refl, refl, refl, refl, refl, refl, refl, refl, refl, refl, refl, refl, refl, refl, refl, refl, refl, refl, refl, refl)
+
+-- boxes that are no boxes of numbers in order: all NaN, all +0, all −0, and corners the wrong way round
+pub flat : Float → Aabb2D
+flat x = aabb x x x x
+
+pub minus-zero : Float
+minus-zero = fin true 0 (pos 0)
+
+pub none : NodeId
+none = node 0
+
+pub odd-boxes : (found (insert (flat nan) none ∷ settle ∷ update first (flat nan) ∷ []) ≡ [] ∷ [] ∷ (flat nan ∷ []) ∷ (flat nan ∷ []) ∷ [])  -- a NaN is no NaN's equal: a move
+    × (found (insert (flat zero) none ∷ settle ∷ update first (flat minus-zero) ∷ []) ≡ [] ∷ [] ∷ [] ∷ [] ∷ [])  -- −0 equals +0: no move
+    × (boxAt (done (insert (flat zero) none ∷ settle ∷ update first (flat minus-zero) ∷ settle ∷ []) .backend .boxes) 0 ≡ flat minus-zero)  -- yet the backend gets it
+    × (rectSlots (done (insert (aabb (num 10) (num 10) zero zero) none ∷ settle ∷ [])) (aabb (num 0) (num 0) (num 11) (num 11)) ≡ 0 ∷ [])  -- boxes as given: it meets the rectangle
+    × (pointSlots (done (insert (aabb (num 10) (num 10) zero zero) none ∷ settle ∷ [])) (num 5) (num 5) ≡ [])  -- and contains no point
+    × (rectSlots (done (add 10 ∷ settle ∷ [])) (aabb (num 20) (num 20) (num 5) (num 5)) ≡ [])  -- a rectangle as given
+    × (pointSlots (done (add 10 ∷ settle ∷ [])) (num 11) (num 10) ≡ 0 ∷ [])  -- every edge is in
+    × (pointSlots (done (add 10 ∷ settle ∷ [])) nan (num 10) ≡ [])
+unfolding num box node add settle first done damage found next answerNumber entries freshIndex run after insertCall updateCall removeCall clearCall commitCall workOf rectSlots slots soundOf onceBelow every times nextGeneration queueWith lengthWith markOf previousAt slotFor usedFor generationFor actOf boxBefore movedFrom movedTo workStep work boxAt putBox idAt putId aabbEq overlaps round units odd size span climb eq le lt flat minus-zero none pointSlots containsPoint
+odd-boxes = (refl, refl, refl, refl, refl, refl, refl, refl)
+
+-- Hand-made indexes. Of slot 0 its own box is 10, its previous box 20, and the box in the backend 30: soundness says nothing of boxes. It is
+-- the only one that is queued, if any is.
+pub hand : List ℕ → ℕ → ℕ → ℕ → Index
+hand mark kept used queued =
+    record {
+      generation = replicate 512 1;
+      mark = mark;
+      payload = replicate 1024 0;
+      aabb = putBox (replicate 2048 zero) 0 (box 10);
+      kept = set (replicate 512 0) 0 kept;
+      prev = putBox (replicate 2048 zero) 0 (box 20);
+      used = used;
+      free = replicate 512 0;
+      frees = 0;
+      dirty = replicate 512 0;
+      queued = queued;
+      backend = record { present = set (replicate 512 0) 0 1; boxes = putBox (replicate 2048 zero) 0 (box 30) };
+    }
+
+-- an empty slot; an entry without a mark; with a previous box; 512 entries, the first of them marked removed
+pub vacant : ℕ → Index
+vacant queued = hand (replicate 512 0) 0 0 queued
+
+pub plain : ℕ → Index
+plain queued = hand (set (replicate 512 0) 0 1) 0 1 queued
+
+pub past : ℕ → Index
+past queued = hand (set (replicate 512 0) 0 1) 1 1 queued
+
+pub brim : Index
+brim = hand (set (replicate 512 1) 0 4) 0 512 1
+
+-- sound by the definition, although no call makes them: document 01's "Sound index" lets an empty and an unmarked slot stand in the queue
+pub hand-sound : (soundIndex (vacant 1) ≡ true) × (soundIndex (plain 1) ≡ true) × (soundIndex (past 0) ≡ true) × (soundIndex (past 1) ≡ true) × (soundIndex brim ≡ true)
+unfolding num box hand vacant plain past brim soundOf onceBelow every times putBox round units odd size span climb
+hand-sound = (refl, refl, refl, refl, refl)
+
+pub hand-made : (damage (vacant 1) ≡ [] ∷ [] ∷ [] ∷ [] ∷ [])  -- a queued slot that is empty does nothing
+    × (commitCall (vacant 1) 2048 2048 2048 2048 ≡ record { answer = commits.Damage 0 0 0; index = vacant 0 })
+    × (rectSlots (vacant 1) (box 30) ≡ [])  -- nor is it visited, whatever the backend has
+    × (insertCall (vacant 1) (box 40) none .answer ≡ inserts.Key first)
+    × (insertCall (vacant 1) (box 40) none .index .queued ≡ 1)  -- an insert finds it in the queue
+    × (damage (plain 1) ≡ [] ∷ [] ∷ [] ∷ [] ∷ [])  -- a queued entry without a mark does nothing
+    × (commitCall (plain 1) 2048 2048 2048 2048 ≡ record { answer = commits.Damage 0 0 0; index = plain 0 })  -- its box does not reach the backend
+    × (updateCall (plain 1) first (box 40) .index .queued ≡ 1)
+    × (damage (updateCall (plain 1) first (box 40) .index) ≡ [] ∷ [] ∷ (box 10 ∷ []) ∷ (box 40 ∷ []) ∷ [])
+    × (removeCall (plain 1) first .index .queued ≡ 1)
+    × (damage (removeCall (plain 1) first .index) ≡ [] ∷ (box 10 ∷ []) ∷ [] ∷ [] ∷ [])
+    × (commitCall (past 1) 2048 2048 2048 2048 ≡ record { answer = commits.Damage 0 0 0; index = past 0 })  -- a previous box stays on an entry without a mark
+    × (damage (updateCall (past 0) first (box 40) .index) ≡ [] ∷ [] ∷ (box 10 ∷ []) ∷ (box 40 ∷ []) ∷ [])  -- an update replaces it
+    × (damage (removeCall (past 0) first .index) ≡ [] ∷ (box 20 ∷ []) ∷ [] ∷ [] ∷ [])  -- a removal shows it
+    × (answerNumber (updateCall (past 0) first (box 40) .answer) ≡ 0)
+    × (answerNumber (removeCall (past 0) first .answer) ≡ 0)
+    × (answerNumber (removeCall (vacant 1) first .answer) ≡ 10)
+    × (insertedNumber (insertCall brim (box 40) none .answer) ≡ 11)  -- a removed entry takes its slot until the commit
+    × (insertCall (after brim settle) (box 40) none .answer ≡ inserts.Key (keyOf 0 2))
+unfolding num box node add settle first done damage found next answerNumber entries freshIndex run after insertCall updateCall removeCall clearCall commitCall workOf rectSlots slots soundOf onceBelow every times nextGeneration queueWith lengthWith markOf previousAt slotFor usedFor generationFor actOf boxBefore movedFrom movedTo workStep work boxAt putBox idAt putId aabbEq overlaps round units odd size span climb eq le lt none hand vacant plain past brim insertedNumber numberOf
+hand-made = (refl, refl, refl, refl, refl, refl, refl, refl, refl, refl, refl, refl, refl, refl, refl, refl, refl, refl, refl)
+
+-- 8, for each of the four rooms and for a query's
+pub short-rooms : (committedNumber (commitCall freshIndex 2047 2048 2048 2048 .answer) ≡ 8)
+    × (committedNumber (commitCall freshIndex 2048 2047 2048 2048 .answer) ≡ 8)
+    × (committedNumber (commitCall freshIndex 2048 2048 2047 2048 .answer) ≡ 8)
+    × (committedNumber (commitCall freshIndex 2048 2048 2048 2047 .answer) ≡ 8)
+    × (committedNumber (commitCall freshIndex 2048 2048 2048 2048 .answer) ≡ 0)
+    × (queriedNumber (queryAnswer freshIndex [] 2047) ≡ 8)
+    × (queriedNumber (queryAnswer freshIndex [] 2048) ≡ 0)
+unfolding freshIndex commitCall queryAnswer committedNumber queriedNumber numberOf soundOf onceBelow every times
+short-rooms = (refl, refl, refl, refl, refl, refl, refl)
 
 -- the refusals have document 01's numbers
 pub numbers : (numberOf (refusal 1) ≡ 1) × (numberOf (refusal 8) ≡ 8) × (numberOf (refusal 10) ≡ 10) × (numberOf (refusal 11) ≡ 11)

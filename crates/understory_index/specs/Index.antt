@@ -1,5 +1,5 @@
 -- The calls of the index, on the whole record: for each, the refusal that applies, the lowest first, and what an accepted call leaves.
-use Prim.Native.Nat.{ℕ, _+_, _-_, _<_}
+use Prim.Native.Nat.{ℕ, _+_, _-_}
 use mathlib.Core.Path.{_≡_}
 use mathlib.Core.Bool.{Bool, true, false, not, _&&_, _||_, cond}
 use mathlib.Core.List.{List}
@@ -67,10 +67,6 @@ soundIndex ix = soundOf (ix .mark) (ix .free) (ix .frees) (ix .dirty) (ix .queue
 -- 11: 512 slots are in use, and none of them is free
 abbrev pub full : Index → Bool
 full ix = eqb (ix .frees) 0 && leb 512 (ix .used)
-
--- a slot is left for an insert
-abbrev pub SlotLeft : ℕ → ℕ → Type 0
-SlotLeft frees used = frees ≡ 0 → used < 512
 
 unfoldable pub freshIndex : Index
 freshIndex =

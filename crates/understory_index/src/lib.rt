@@ -2,9 +2,7 @@
 // slots. Every call takes every index, key, box and room. A refused call leaves the rooms as they were, and one that returns an index returns
 // it as it was given.
 ghost use mathlib.Core.Path.{_≡_};
-ghost use Prim.Native.Nat.{_-_};
 ghost use lib.ListN.{length};
-ghost use Rattle.index_entries.specs.Entries.{usedFor};
 ghost use Rattle.understory_index.specs.Index as spec;
 use boxes::Aabb2D;
 use boxes::Key;
@@ -87,21 +85,6 @@ pub fn fresh() -> Index
     }
 }
 
-// How many slots are used once an insert has taken its slot.
-fn used_after(frees: usize, used: usize) -> usize
-    requires { ⌜ spec.SlotLeft frees used ⌝ }
-    ensures { λ r. ⌜ r ≡ usedFor frees used ⌝ }
-{
-    if frees == 0 { used + 1 } else { used }
-}
-
-// How many slots stay in the free list then.
-fn frees_after(frees: usize) -> usize
-    ensures { λ r. ⌜ r ≡ frees - 1 ⌝ }
-{
-    if frees == 0 { 0 } else { frees - 1 }
-}
-
 pub fn insert(ix: Index, aabb: Aabb2D, payload: NodeId) -> AfterInsert
     ensures { λ r. ⌜ r ≡ spec.insertCall ix aabb payload ⌝ }
 {
@@ -129,18 +112,20 @@ pub fn insert(ix: Index, aabb: Aabb2D, payload: NodeId) -> AfterInsert
             index: ix,
         };
     }
-    let t = index_entries::next_slot(&generation, &free, frees, used);
-    index_entries::store_entry(
+    let t = index_entries::insert_entry(
         &mut generation,
         &mut mark,
         &mut payloads,
         &mut boxes,
         &mut kept,
-        t,
+        &mut dirty,
+        &free,
+        used,
+        frees,
+        queued,
         aabb,
         payload,
     );
-    let length = index_entries::queue_dirty_slot(&mut dirty, queued, t.slot);
     AfterInsert {
         answer: Inserted::Key(Key(t.slot, t.generation)),
         index: Index {
@@ -150,11 +135,11 @@ pub fn insert(ix: Index, aabb: Aabb2D, payload: NodeId) -> AfterInsert
             aabb: boxes,
             kept,
             prev,
-            used: used_after(frees, used),
+            used: t.used,
             free,
-            frees: frees_after(frees),
+            frees: t.frees,
             dirty,
-            queued: length,
+            queued: t.queued,
             backend,
         },
     }
@@ -189,7 +174,7 @@ pub fn update(ix: Index, key: Key, aabb: Aabb2D) -> After
             index: ix,
         };
     };
-    let x = key.0;
+    let x = key.0; // the slot to update
     let length = index_entries::update_entry(
         &mut mark,
         &mut boxes,
@@ -214,7 +199,7 @@ pub fn update(ix: Index, key: Key, aabb: Aabb2D) -> After
             free,
             frees,
             dirty,
-            queued: length,
+            queued: length, // longer where the entry had no mark
             backend,
         },
     }
@@ -284,7 +269,7 @@ pub fn clear(ix: Index) -> After
     ensures { λ r. ⌜ r ≡ spec.clearCall ix ⌝ }
 {
     let frees = ix.frees;
-    let queued = ix.queued;
+    let queued = ix.queued; // asked for soundness alone
     let used = ix.used;
     if !index_sound::is_sound(&ix.mark, &ix.free, frees, &ix.dirty, queued, used) {
         return After {
@@ -293,7 +278,7 @@ pub fn clear(ix: Index) -> After
         };
     }
     After {
-        answer: Answer::Done,
+        answer: Answer::Done, // whatever it held
         index: fresh(),
     }
 }

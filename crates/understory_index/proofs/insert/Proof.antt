@@ -1,10 +1,11 @@
 -- the tables' lengths
 use mathlib.Core.Path.{_≡_, sym, _∙_}
+use Prim.Native.Nat.{_<_}
 use lib.ListN.{length}
 use borrow.Author.Tests.{eq-eqb, leb-false, not-false}
 use borrow.Author.Needs.{needs}
 use Rattle.understory_index.proofs.Calls.{insert-done}
-use Rattle.understory_index.specs.Index.{SlotLeft, insertCall}
+use Rattle.understory_index.specs.Index.{insertCall}
 use Rattle.index_entries.proofs.Keep.{queue-of, queue-room, slot-fits}
 use Rattle.index_sound.proofs.Exact.{CountOf, count-tells}
 use Rattle.understory_index.proofs.insert.Statement.{statement}
@@ -22,7 +23,7 @@ count-here c =
     (sym (c .before .is-sound .ensures) ∙ not-false (c .before .is-sound .result) (c .if1 .left))
 
 -- a slot is left
-room-here : (c : tie.Else2) → let ix = c .before .before .before .before .before .before .before .before .before .before .before .before .before .before .before .args .ix in SlotLeft (ix .frees) (ix .used)
+room-here : (c : tie.Else2) → let ix = c .before .before .before .before .before .before .before .before .before .before .before .before .before .before .before .args .ix in ix .frees ≡ 0 → ix .used < 512
 room-here c e =
     let ix = c .before .before .before .before .before .before .before .before .before .before .before .before .before .before .before .args .ix in
     leb-false 512 (ix .used) (rw (eq-eqb (ix .frees) 0 e) at (c .if2 .left))
@@ -38,34 +39,20 @@ returns-2 : tie.Need-returns-2
 unfolding insertCall
 returns-2 c = rw (insertCall, ← c .before .before .is-sound .ensures, c .before .if1 .left, c .if2 .taken)
 
-next-slot-requires : tie.Need-next-slot-requires
-next-slot-requires c κs = let S = c .before .before .before .before .before .before .before .before .before .before .before .before .before .before .before .before .before in let ix = S .args .ix in let C = count-here (c .before .before .before) in (C .used-fits, C .free-fits, slot-fits (ix .mark) (ix .free) (ix .frees) (ix .dirty) (ix .queued) (ix .used) C (lens S .0) (lens S .1) (lens S .2) (room-here (c .before .before)))
-
-store-entry-requires : tie.Need-store-entry-requires
-store-entry-requires c κs = let S = c .before .before .before .before .before .before .before .before .before .before .before .before .before .before .before .before .before .before .before .before .before .before .before in let ix = S .args .ix in let C = count-here (c .before .before .before .before .before .before .before .before .before) in rw (c .before .before .before .before .before .next-slot .ensures .0) (slot-fits (ix .mark) (ix .free) (ix .frees) (ix .dirty) (ix .queued) (ix .used) C (lens S .0) (lens S .1) (lens S .2) (room-here (c .before .before .before .before .before .before .before .before)))
-
-queue-dirty-slot-requires : tie.Need-queue-dirty-slot-requires
-queue-dirty-slot-requires c κs = let S = c .before .before .before .before .before .before .before .before .before .before .before .before .before .before .before .before .before .before .before .before .before .before .before .before .before in let ix = S .args .ix in let C = count-here (c .before .before .before .before .before .before .before .before .before .before .before) in let f = slot-fits (ix .mark) (ix .free) (ix .frees) (ix .dirty) (ix .queued) (ix .used) C (lens S .0) (lens S .1) (lens S .2) (room-here (c .before .before .before .before .before .before .before .before .before .before)) in rw (c .before .before .before .before .before .before .before .next-slot .ensures .0) (C .queue-fits, lens S .2, queue-room (ix .dirty) (ix .queued) (queue-of (ix .mark) (ix .free) (ix .frees) (ix .dirty) (ix .queued) (ix .used) C (lens S .0)) (lens S .2) _ f)
-
-used-after-requires : tie.Need-used-after-requires
-used-after-requires c κs = room-here (c .before .before .before .before .before .before .before .before .before .before .before)
-
-frees-after-requires : tie.Need-frees-after-requires
-frees-after-requires c κs = search needs
+insert-entry-requires : tie.Need-insert-entry-requires
+insert-entry-requires c κs =
+    let S = c .before .before .before .before .before .before .before .before .before .before .before .before .before .before .before .before .before .before .before .before .before .before in
+    let ix = S .args .ix in
+    let C = count-here (c .before .before .before .before .before .before .before .before) in
+    let f = slot-fits (ix .mark) (ix .free) (ix .frees) (ix .dirty) (ix .queued) (ix .used) C (lens S .0) (lens S .1) (lens S .2) (room-here (c .before .before .before .before .before .before .before)) in
+    (C .used-fits, C .free-fits, f, C .queue-fits, lens S .2, queue-room (ix .dirty) (ix .queued) (queue-of (ix .mark) (ix .free) (ix .frees) (ix .dirty) (ix .queued) (ix .used) C (lens S .0)) (lens S .2) _ f)
 
 returns-3 : tie.Need-returns-3
-returns-3 c = let A = c .before .before .before .before .before .before .before .before .before .before .before .before .before .before .before .before .before .before .before .before .before .before .before .before .before .before .before .before .args in let N = c .before .before .before .before .before .before .before .before .before .before .next-slot .ensures in let T = c .before .before .before .before .store-entry .ensures in let Q = c .before .before .queue-dirty-slot .ensures in insert-done (A .ix) (A .aabb) (A .payload) (rw (← c .before .before .before .before .before .before .before .before .before .before .before .before .before .before .before .is-sound .ensures) (c .before .before .before .before .before .before .before .before .before .before .before .before .before .before .if1 .left)) (c .before .before .before .before .before .before .before .before .before .before .before .before .before .if2 .left) _ _ _ _ _ _ _ _ _ _ _ (N .0) (N .1) (T .0) (T .1 .0) (T .1 .1 .0) (T .1 .1 .1 .0) (T .1 .1 .1 .1) (c .before .used-after .ensures) (c .frees-after .ensures) (Q .0) (Q .1)
+returns-3 c =
+    let A = c .before .before .before .before .before .before .before .before .before .before .before .before .before .before .before .before .before .before .before .before .before .before .before .args in
+    let E = c .insert-entry .ensures in
+    insert-done (A .ix) (A .aabb) (A .payload) (rw (← c .before .before .before .before .before .before .before .before .before .before .is-sound .ensures) (c .before .before .before .before .before .before .before .before .before .if1 .left)) (c .before .before .before .before .before .before .before .before .if2 .left) _ _ _ _ _ _ _ _ _ _ _
+    (E .0) (E .1 .0) (E .1 .1 .0) (E .1 .1 .1 .0) (E .1 .1 .1 .1 .0) (E .1 .1 .1 .1 .1 .0) (E .1 .1 .1 .1 .1 .1 .0) (E .1 .1 .1 .1 .1 .1 .1 .0) (E .1 .1 .1 .1 .1 .1 .1 .1 .0) (E .1 .1 .1 .1 .1 .1 .1 .1 .1 .0) (E .1 .1 .1 .1 .1 .1 .1 .1 .1 .1)
 
 pub insert-spec : {M : Type 1} → statement M
-insert-spec =
-    tie.close
-    (tie.spec
-    is-sound-requires
-    returns
-    returns-2
-    next-slot-requires
-    store-entry-requires
-    queue-dirty-slot-requires
-    used-after-requires
-    frees-after-requires
-    returns-3)
+insert-spec = tie.close (tie.spec is-sound-requires returns returns-2 insert-entry-requires returns-3)
