@@ -1,0 +1,6 @@
+pub mod Bools
+pub mod Clauses
+pub mod Counting
+pub mod Lists
+pub mod Focus
+pub mod Laws
