@@ -12,7 +12,7 @@ use Rattle.counting.proofs.Counting.{times-append}
 use Rattle.forest.specs.Forest.{Forest, none, tree, pre, post, dep, roots, has, count, Once, cat, under, remove, Spot, spot, kids, above, part, children, depth}
 use Rattle.forest.specs.Table.{run, segEnd, indexOf, lastAbove, atDepth, postOf, rebased}
 use Rattle.forest.proofs.Counting.{has-count, lacks-count, count-has, count-lacks, count-pre, length-post}
-use Rattle.forest.proofs.Lists.{run-append, index-here, index-past, index-within, at-yes, at-no, drop-past, three-insert, three-cut, three-before, three-part}
+use Rattle.forest.proofs.Lists.{run-append, run-higher, index-here, index-past, index-within, at-yes, at-no, drop-past, Three, three-insert, three-cut, three-before, three-part, three-within, three-found}
 use Rattle.forest.proofs.Focus.{length-dep, run-deep, run-sibling, Focus, focus}
 
 -- ---- a node's place, and where its segment ends
@@ -65,3 +65,135 @@ module _ (p : ℕ) (f : Forest) (F : Focus p [] f (spot p [] f)) where
 
   dend-is : end p f ≡ length (F .dbefore) + length (depth p f ∷ dep (suc (depth p f)) (kids p f))
   dend-is = end-is ∙ sym (rw (F .even, length-dep))
+
+  slots-three : Three (pre f) (F .before) (p ∷ pre (kids p f)) (F .after) (place p f) (end p f)
+  slots-three = record { is = F .slots; from = place-is; to = end-is }
+
+  depths-three : Three (dep 1 f) (F .dbefore) (depth p f ∷ dep (suc (depth p f)) (kids p f)) (F .dafter) (place p f) (end p f)
+  depths-three = record { is = F .depths; from = dplace-is; to = dend-is }
+
+-- ---- of a node that is there
+module _ (p : ℕ) (f : Forest) (h : has p f ≡ true) where
+  F : Focus p [] f (spot p [] f)
+  F = focus p f h
+
+  pub depth-at : getD (dep 1 f) (place p f) 0 ≡ depth p f
+  depth-at = depth-is p f F
+
+  -- at most one more for each place before it
+  pub depth-small : depth p f ≤ suc (place p f)
+  depth-small = omega (arith, F .high, place-is p f F)
+
+  -- ---- its segment
+  pub end-at : end p f ≡ place p f + length (pre (part p f))
+  unfolding pre
+  end-at = rw (append-nil (pre (kids p f))) (omega (arith, end-is p f F, place-is p f F))
+
+  pub end-after : place p f < end p f
+  end-after = omega (arith, end-is p f F, place-is p f F)
+
+  pub end-within : end p f ≤ length (pre f)
+  end-within = omega (arith, end-is p f F, simp length-append at (ap length (F .slots)))
+
+  pub segment : take (end p f - place p f) (drop (place p f) (pre f)) ≡ pre (part p f)
+  unfolding pre
+  segment = three-part (slots-three p f F) ∙ simp append-nil
+
+  pub segment-depths : take (end p f - place p f) (drop (place p f) (dep 1 f)) ≡ dep (depth p f) (part p f)
+  unfolding dep
+  segment-depths = three-part (depths-three p f F) ∙ simp append-nil
+
+  -- ---- its parent, or a
+  pub parent-at : (a : ℕ) → lastAbove (depth p f) a (take (place p f) (pre f)) (take (place p f) (dep 1 f)) ≡ getD (above p f) 0 a
+  parent-at a = rw (three-before (slots-three p f F), three-before (depths-three p f F)) (F .up a)
+
+  -- ---- changes
+  pub pre-under : (t : Forest) → pre (under p t f) ≡ take (end p f) (pre f) ++ (pre t ++ drop (end p f) (pre f))
+  pre-under t = F .added t ∙ sym (three-insert (slots-three p f F) (pre t))
+
+  pub dep-under : (t : Forest) → dep 1 (under p t f) ≡ take (end p f) (dep 1 f) ++ (dep (suc (depth p f)) t ++ drop (end p f) (dep 1 f))
+  dep-under t = F .dadded t ∙ sym (three-insert (depths-three p f F) (dep (suc (depth p f)) t))
+
+  pub pre-remove : pre (remove p f) ≡ take (place p f) (pre f) ++ drop (end p f) (pre f)
+  pre-remove = F .removed ∙ sym (three-cut (slots-three p f F))
+
+  pub dep-remove : dep 1 (remove p f) ≡ take (place p f) (dep 1 f) ++ drop (end p f) (dep 1 f)
+  dep-remove = F .dremoved ∙ sym (three-cut (depths-three p f F))
+
+  -- ---- itself and what is below it, by two comparisons of places
+  times-part : (x : ℕ) → times x (p ∷ pre (kids p f)) ≡ count x (part p f)
+  unfolding pre
+  times-part x = ap (times x) (simp append-nil) ∙ count-pre x (part p f)
+
+  pub within-below : (x : ℕ) → place p f ≤ place x f → place x f < end p f → has x (part p f) ≡ true
+  within-below x low high = count-has x (part p f) (omega (arith, three-within (slots-three p f F) x low high, times-part x))
+
+  pub below-within : Once f → (x : ℕ) → has x (part p f) ≡ true → (place p f ≤ place x f) × (place x f < end p f)
+  below-within o x g =
+      let n = has-count x (part p f) g in
+      let m : times x (pre f) ≡ times x (F .before) + (times x (p ∷ pre (kids p f)) + times x (F .after)) =
+      ap (times x) (F .slots) ∙ times-append x (F .before) (p ∷ (pre (kids p f) ++ F .after))
+      ∙ ap (λ (k : ℕ). times x (F .before) + k) (times-append x (p ∷ pre (kids p f)) (F .after)) in
+      three-found (slots-three p f F) x (omega (arith, times-part x, count-pre x f, o x)) (omega (arith, times-part x))
+
+-- ---- a whole forest's lists: depths counted from another place, post-order, the slots at one depth
+rebased-from : (d e : ℕ) (f : Forest) (k : ℕ) → map (rebased d e) (dep (k + d) f) ≡ dep (k + e) f
+unfolding dep
+rebased-from d e none k = refl
+rebased-from d e (tree x c s) k =
+    let w : rebased d e (k + d) ≡ k + e = omega arith in
+    let u : map (rebased d e) (dep (suc (k + d)) c) ≡ dep (suc (k + e)) c = rw (← suc-add k d, ← suc-add k e) (rebased-from d e c (suc k)) in
+    rw (w, map-append (rebased d e) (dep (suc (k + d)) c) (dep (k + d) s), u, rebased-from d e s k)
+
+pub rebased-dep : (d e : ℕ) (f : Forest) → map (rebased d e) (dep d f) ≡ dep e f
+rebased-dep d e f = simp zero-add at (rebased-from d e f 0)
+
+post-append : (d : ℕ) (f : Forest) (xs ds : List ℕ) → run d ds ≡ 0 → postOf (pre f ++ xs) (dep d f ++ ds) ≡ post f ++ postOf xs ds
+unfolding pre dep post postOf
+post-append d none xs ds z = refl
+post-append d (tree x c s) xs ds z =
+    let z′ : run d (dep d s ++ ds) ≡ 0 = run-append d (dep d s) ds (run-sibling d d s (omega arith)) z in
+    let e : run d (dep (suc d) c ++ (dep d s ++ ds)) ≡ length (pre c) = run-deep d (suc d) c (dep d s ++ ds) (omega arith) ∙ rw z′ (omega arith) in
+    let u : postOf (pre c ++ (pre s ++ xs)) (dep (suc d) c ++ (dep d s ++ ds)) ≡ post c ++ (post s ++ postOf xs ds) =
+    post-append (suc d) c (pre s ++ xs) (dep d s ++ ds) (run-higher d (suc d) (dep d s ++ ds) (omega arith) z′) ∙ ap (λ (r : List ℕ). post c ++ r) (post-append d s xs ds z) in
+    rw (
+      append-assoc (pre c) (pre s) xs,
+      append-assoc (dep (suc d) c) (dep d s) ds,
+      e,
+      u,
+      take-at (post c) (post s ++ postOf xs ds) (length (pre c)) (length-post c),
+      drop-at (post c) (post s ++ postOf xs ds) (length (pre c)) (length-post c),
+      append-assoc (post c) (x ∷ post s) (postOf xs ds),
+    )
+
+pub post-law : (d : ℕ) (f : Forest) → postOf (pre f) (dep d f) ≡ post f
+unfolding run postOf
+post-law d f = simp append-nil at (post-append d f [] [] refl)
+
+-- none where the roots are deeper
+at-deep : (k d : ℕ) (f : Forest) (xs ds : List ℕ) → k < d → atDepth k (pre f ++ xs) (dep d f ++ ds) ≡ atDepth k xs ds
+unfolding pre dep
+at-deep k d none xs ds h = refl
+at-deep k d (tree x c s) xs ds h =
+    at-no k x d (pre c ++ pre s ++ xs) (dep (suc d) c ++ dep d s ++ ds) (λ e. omega arith)
+    ∙ rw (append-assoc (pre c) (pre s) xs, append-assoc (dep (suc d) c) (dep d s) ds) (at-deep k (suc d) c (pre s ++ xs) (dep d s ++ ds) (omega arith) ∙ at-deep k d s xs ds h)
+
+pub roots-law : (d : ℕ) (f : Forest) → atDepth d (pre f) (dep d f) ≡ roots f
+unfolding pre dep roots atDepth
+roots-law d none = refl
+roots-law d (tree x c s) =
+    at-yes d x d (pre c ++ pre s) (dep (suc d) c ++ dep d s) refl
+    ∙ ap (λ (r : List ℕ). x ∷ r) (at-deep d (suc d) c (pre s) (dep d s) (omega arith) ∙ roots-law d s)
+
+-- ---- read from a node's segment
+module _ (p : ℕ) (f : Forest) (h : has p f ≡ true) where
+  pub post-at : postOf (take (end p f - place p f) (drop (place p f) (pre f))) (take (end p f - place p f) (drop (place p f) (dep 1 f))) ≡ post (part p f)
+  post-at = rw (segment p f h, segment-depths p f h) (post-law (depth p f) (part p f))
+
+  pub children-at : atDepth (suc (depth p f)) (take (end p f - place p f) (drop (place p f) (pre f))) (take (end p f - place p f) (drop (place p f) (dep 1 f)))
+      ≡ children p f
+  unfolding pre dep
+  children-at =
+      let d = depth p f in
+      rw (segment p f h, segment-depths p f h, append-nil (pre (kids p f)), append-nil (dep (suc d) (kids p f)))
+      (at-no (suc d) p d (pre (kids p f)) (dep (suc d) (kids p f)) (λ e. omega arith) ∙ roots-law (suc d) (kids p f))

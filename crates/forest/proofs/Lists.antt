@@ -107,23 +107,49 @@ pub drop-past : (b : List ℕ) (x : ℕ) (r : List ℕ) (i : ℕ) → i ≡ leng
 drop-past b x r i e = rw (← append-snoc b x r) (drop-at (b ++ (x ∷ [])) r (i + 1) (rw (length-append, e)))
 
 -- a list in three parts, the second from i up to e
-module _ (xs b m a : List ℕ) (i e : ℕ) (is : xs ≡ b ++ (m ++ a)) (from : i ≡ length b) (to : e ≡ length b + length m) where
-  pub three-insert : (ys : List ℕ) → take e xs ++ (ys ++ drop e xs) ≡ b ++ (m ++ (ys ++ a))
-  three-insert ys =
-      let l : length (b ++ m) ≡ e = simp length-append (sym to) in
-      rw (is, ← append-assoc b m a, take-at (b ++ m) a e l, drop-at (b ++ m) a e l) (append-assoc b m (ys ++ a))
+pub record Three (xs b m a : List ℕ) (i e : ℕ) : Type 0 where
+  pub is : xs ≡ b ++ (m ++ a)
+  pub from : i ≡ length b
+  pub to : e ≡ length b + length m
 
-  pub three-cut : take i xs ++ drop e xs ≡ b ++ a
-  three-cut =
-      let l : length (b ++ m) ≡ e = simp length-append (sym to) in
-      let u : take i (b ++ (m ++ a)) ≡ b = take-at b (m ++ a) i (sym from) in
-      let v : drop e ((b ++ m) ++ a) ≡ a = drop-at (b ++ m) a e l in
-      rw (is, u, ← append-assoc b m a, v)
+module _ {xs b m a : List ℕ} {i e : ℕ} (T : Three xs b m a i e) where
+  two : length (b ++ m) ≡ e
+  two = simp length-append (sym (T .to))
+
+  pub three-insert : (ys : List ℕ) → take e xs ++ (ys ++ drop e xs) ≡ b ++ (m ++ (ys ++ a))
+  three-insert ys = rw (T .is, ← append-assoc b m a, take-at (b ++ m) a e two, drop-at (b ++ m) a e two) (append-assoc b m (ys ++ a))
 
   pub three-before : take i xs ≡ b
-  three-before = rw is (take-at b (m ++ a) i (sym from))
+  three-before = rw (T .is) (take-at b (m ++ a) i (sym (T .from)))
+
+  pub three-after : drop e xs ≡ a
+  three-after = rw (T .is, ← append-assoc b m a) (drop-at (b ++ m) a e two)
+
+  pub three-cut : take i xs ++ drop e xs ≡ b ++ a
+  three-cut = rw (three-before, three-after)
 
   pub three-part : take (e - i) (drop i xs) ≡ m
   three-part =
-      let l : length m ≡ e - i = omega arith in
-      rw (is, drop-at b (m ++ a) i (sym from)) (take-at m a (e - i) l)
+      let l : length m ≡ e - i = omega (arith, T .from, T .to) in
+      rw (T .is, drop-at b (m ++ a) i (sym (T .from))) (take-at m a (e - i) l)
+
+  -- x is found in the second part
+  pub three-within : (x : ℕ) → i ≤ indexOf x xs → indexOf x xs < e → 1 ≤ times x m
+  three-within x low high =
+      elim (decLe 1 (times x b)) [
+        | yes n ↦ let w : indexOf x xs < length b = rw (T .is) (index-within x b (m ++ a) n) in absurd (omega (arith, T .from))
+        | no n ↦
+            elim (decLe 1 (times x m)) [
+              | yes k ↦ k
+              | no k ↦
+                  let w : indexOf x xs ≡ length b + (length m + indexOf x a) =
+                  rw (T .is, index-past x b (m ++ a) (omega arith), index-past x m a (omega arith)) in
+                  absurd (omega (arith, T .to))
+            ]
+      ]
+
+  pub three-found : (x : ℕ) → times x b ≡ 0 → 1 ≤ times x m → (i ≤ indexOf x xs) × (indexOf x xs < e)
+  three-found x z n =
+      let w : indexOf x xs ≡ length b + indexOf x (m ++ a) = rw (T .is) (index-past x b (m ++ a) z) in
+      let k = index-within x m a n in
+      (omega (arith, T .from), omega (arith, T .to))
