@@ -185,6 +185,13 @@ roots-law d (tree x c s) =
     at-yes d x d (pre c ++ pre s) (dep (suc d) c ++ dep d s) refl
     ∙ ap (λ (r : List ℕ). x ∷ r) (at-deep d (suc d) c (pre s) (dep d s) (omega arith) ∙ roots-law d s)
 
+-- a node's children lie one deeper
+pub children-law : (d p : ℕ) (f : Forest) → atDepth (suc d) (pre (part p f)) (dep d (part p f)) ≡ children p f
+unfolding pre dep
+children-law d p f =
+    rw (append-nil (pre (kids p f)), append-nil (dep (suc d) (kids p f)))
+    (at-no (suc d) p d (pre (kids p f)) (dep (suc d) (kids p f)) (λ e. omega arith) ∙ roots-law (suc d) (kids p f))
+
 -- ---- read from a node's segment
 module _ (p : ℕ) (f : Forest) (h : has p f ≡ true) where
   pub post-at : postOf (take (end p f - place p f) (drop (place p f) (pre f))) (take (end p f - place p f) (drop (place p f) (dep 1 f))) ≡ post (part p f)
@@ -192,8 +199,4 @@ module _ (p : ℕ) (f : Forest) (h : has p f ≡ true) where
 
   pub children-at : atDepth (suc (depth p f)) (take (end p f - place p f) (drop (place p f) (pre f))) (take (end p f - place p f) (drop (place p f) (dep 1 f)))
       ≡ children p f
-  unfolding pre dep
-  children-at =
-      let d = depth p f in
-      rw (segment p f h, segment-depths p f h, append-nil (pre (kids p f)), append-nil (dep (suc d) (kids p f)))
-      (at-no (suc d) p d (pre (kids p f)) (dep (suc d) (kids p f)) (λ e. omega arith) ∙ roots-law (suc d) (kids p f))
+  children-at = rw (segment p f h, segment-depths p f h) (children-law (depth p f) p f)

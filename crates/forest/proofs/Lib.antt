@@ -4,3 +4,5 @@ pub mod Counting
 pub mod Lists
 pub mod Focus
 pub mod Laws
+pub mod Arrays
+pub mod Rep

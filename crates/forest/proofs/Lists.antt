@@ -10,7 +10,7 @@ use native.Mathlib.Decide.{decLe, ℕ-discrete}
 use borrow.Author.Tests.{lt-ltb, le-ltb, eq-eqb, ne-eqb}
 use lib.Dec.{ltb, eqb}
 use lib.ListN.{length, take, drop, getD, length-append}
-use lib.Seq.{append-snoc, take-at, drop-at, take-nil}
+use lib.Seq.{append-snoc, take-at, drop-at, take-nil, take-take}
 use Rattle.counting.specs.Times.{one, times}
 use Rattle.counting.proofs.Counting.{hit, miss}
 use Rattle.forest.specs.Table.{run, indexOf, lastAbove, atDepth}
@@ -102,6 +102,10 @@ drop-take zero n a h = rw sub-zero
 drop-take (suc e) zero a h = absurd (not-suc-le-zero h)
 drop-take (suc e) (suc n) [] h = sym (take-nil (suc n - suc e))
 drop-take (suc e) (suc n) (x ∷ a) h = rw suc-sub-suc (drop-take e n a (le-of-suc-le-suc h))
+
+-- a part that lies within the first n
+pub middle-take : (i e n : ℕ) (a : List ℕ) → i ≤ e → e ≤ n → take (e - i) (drop i (take n a)) ≡ take (e - i) (drop i a)
+middle-take i e n a h k = let w : e - i ≤ n - i = omega arith in rw (drop-take i n a (omega arith)) (take-take (e - i) (n - i) (drop i a) w)
 
 pub drop-past : (b : List ℕ) (x : ℕ) (r : List ℕ) (i : ℕ) → i ≡ length b → drop (i + 1) (b ++ (x ∷ r)) ≡ r
 drop-past b x r i e = rw (← append-snoc b x r) (drop-at (b ++ (x ∷ [])) r (i + 1) (rw (length-append, e)))

@@ -1,0 +1,182 @@
+-- Two arrays and a count as the table of a forest: what is read from them, and that every change keeps it so.
+use mathlib.Core.Path.{_≡_, refl, sym, ap, ap₂, subst, _∙_}
+use mathlib.Core.Bool.{Bool, true, false}
+use mathlib.Core.List.{List, [], _∷_, _++_, map, append-nil}
+use Prim.Native.Nat.{ℕ, zero, suc, _+_, _-_, _≤_, _<_}
+use native.Mathlib.Numerals.{add-one}
+use native.Mathlib.Omega.{arith}
+use lib.ListN.{length, take, drop, getD, length-append, length-drop, drop-of-length-le}
+use lib.Seq.{take-take, take-all, drop-length, getD-take, length-take-le}
+use Rattle.forest.specs.Forest.{Forest, none, tree, leaf, pre, post, dep, has, Once, cat, under, remove, above, part, children, depth}
+use Rattle.forest.specs.Table.{segEnd, indexOf, lastAbove, atDepth, postOf, rebased, insertAll, cutOut}
+use Rattle.forest.proofs.Lists.{middle-take}
+use Rattle.forest.proofs.Focus.{length-dep, pre-cat, dep-cat}
+use Rattle.forest.proofs.Laws.{place, end, place-there, there-place, missing-place, depth-at, depth-small, end-at, end-after, end-within, segment, segment-depths, parent-at, pre-under, dep-under, pre-remove, dep-remove, within-below, below-within, rebased-dep, post-law, children-law}
+use Rattle.forest.proofs.Arrays.{take-insertAll, length-insertAll, take-cutOut, length-cutOut}
+
+-- the first n of the two arrays are the slots and the depths of f
+pub record Rep (slots depths : List ℕ) (n : ℕ) (f : Forest) : Type 0 where
+  pub counted : n ≡ length (pre f)
+  pub order : take n slots ≡ pre f
+  pub depth : take n depths ≡ dep 1 f
+  pub small : n ≤ 256
+  pub sizes : (length slots ≡ 256) × (length depths ≡ 256)
+
+-- p stands at the place i, and its segment ends at e
+pub record Segment (slots depths : List ℕ) (n p i e : ℕ) : Type 0 where
+  pub at : i ≡ indexOf p (take n slots)
+  pub inside : i < n
+  pub ends : e ≡ segEnd (take n depths) i
+
+module _ {slots depths : List ℕ} {n : ℕ} {f : Forest} (R : Rep slots depths n f) where
+  pub rep-there : (p i : ℕ) → i ≡ indexOf p (take n slots) → i < n → has p f ≡ true
+  rep-there p i is h = there-place p f (rw (← R .counted, ← R .order, ← is) h)
+
+  pub rep-missing : (p i : ℕ) → i ≡ indexOf p (take n slots) → n ≤ i → has p f ≡ false
+  rep-missing p i is h = missing-place p f (rw (← R .counted, ← R .order, ← is) h)
+
+  -- ys and zs put in at e
+  rep-insert : (g : Forest) (e : ℕ) (ys zs : List ℕ) → e ≤ n → length zs ≡ length ys → n + length ys ≤ 256 → pre g ≡ take e (pre f) ++ (ys ++ drop e (pre f))
+      → dep 1 g ≡ take e (dep 1 f) ++ (zs ++ drop e (dep 1 f)) → Rep (insertAll n e ys slots) (insertAll n e zs depths) (n + length ys) g
+  rep-insert g e ys zs h even room is ds =
+      let fits : n ≤ length slots = omega (arith, R .small, R .sizes .0) in
+      let dfits : n ≤ length depths = omega (arith, R .small, R .sizes .1) in
+      let size : length (insertAll n e ys slots) ≡ 256 = length-insertAll n e ys slots h fits (omega (arith, R .sizes .0)) ∙ R .sizes .0 in
+      let dsize : length (insertAll n e zs depths) ≡ 256 = length-insertAll n e zs depths h dfits (omega (arith, R .sizes .1)) ∙ R .sizes .1 in
+      let front : take (n + length ys) (insertAll n e ys slots) ≡ pre g = take-insertAll n e ys slots h fits ∙ rw (R .order) (sym is) in
+      record {
+        counted = sym (length-take-le (n + length ys) (insertAll n e ys slots) (rw size room)) ∙ ap length front;
+        order = front;
+        depth = rw (← even) (take-insertAll n e zs depths h dfits ∙ rw (R .depth) (sym ds));
+        small = room;
+        sizes = (size, dsize);
+      }
+
+  -- what stands from i up to e taken out
+  rep-cut : (g : Forest) (i e : ℕ) → i ≤ e → e ≤ n → pre g ≡ take i (pre f) ++ drop e (pre f) → dep 1 g ≡ take i (dep 1 f) ++ drop e (dep 1 f)
+      → Rep (cutOut n i e slots) (cutOut n i e depths) (i + (n - e)) g
+  rep-cut g i e l h is ds =
+      let fits : n ≤ length slots = omega (arith, R .small, R .sizes .0) in
+      let dfits : n ≤ length depths = omega (arith, R .small, R .sizes .1) in
+      let size : length (cutOut n i e slots) ≡ 256 = length-cutOut n i e slots l h fits ∙ R .sizes .0 in
+      let dsize : length (cutOut n i e depths) ≡ 256 = length-cutOut n i e depths l h dfits ∙ R .sizes .1 in
+      let room : i + (n - e) ≤ 256 = omega (arith, R .small) in
+      let front : take (i + (n - e)) (cutOut n i e slots) ≡ pre g = take-cutOut n i e slots l h fits ∙ rw (R .order) (sym is) in
+      record {
+        counted = sym (length-take-le (i + (n - e)) (cutOut n i e slots) (rw size room)) ∙ ap length front;
+        order = front;
+        depth = take-cutOut n i e depths l h dfits ∙ rw (R .depth) (sym ds);
+        small = room;
+        sizes = (size, dsize);
+      }
+
+  -- trees behind the last root
+  pub rep-cat : (t : Forest) → n + length (pre t) ≤ 256 → Rep (insertAll n n (pre t) slots) (insertAll n n (dep 1 t) depths) (n + length (pre t)) (cat f t)
+  rep-cat t room =
+      let all : (xs ys : List ℕ) → length xs ≡ n → xs ++ ys ≡ take n xs ++ (ys ++ drop n xs) =
+      λ xs ys l. let le : length xs ≤ n = omega arith in rw (take-all n xs le, drop-of-length-le xs le, append-nil ys) in
+      rep-insert (cat f t) n (pre t) (dep 1 t) (omega arith) (length-dep 1 t) room
+      (pre-cat f t ∙ all (pre f) (pre t) (sym (R .counted)))
+      (dep-cat 1 f t ∙ all (dep 1 f) (dep 1 t) (length-dep 1 f ∙ sym (R .counted)))
+
+  module _ {p i e : ℕ} (S : Segment slots depths n p i e) where
+    pub rep-has : has p f ≡ true
+    rep-has = rep-there p i (S .at) (S .inside)
+
+    pub rep-place : i ≡ place p f
+    rep-place = S .at ∙ ap (indexOf p) (R .order)
+
+    pub rep-end : e ≡ end p f
+    rep-end = S .ends ∙ ap₂ segEnd (R .depth) rep-place
+
+    pub rep-after : i < e
+    rep-after = omega (arith, rep-place, rep-end, end-after p f rep-has)
+
+    pub rep-within : e ≤ n
+    rep-within = omega (arith, rep-end, R .counted, end-within p f rep-has)
+
+    pub rep-depth : getD depths i 0 ≡ depth p f
+    rep-depth = sym (getD-take n depths i 0 (S .inside)) ∙ rw (R .depth, rep-place) (depth-at p f rep-has)
+
+    -- ---- what is read there
+    pub rep-parent : (a : ℕ) → lastAbove (getD depths i 0) a (take i slots) (take i depths) ≡ getD (above p f) 0 a
+    rep-parent a =
+        let w : i ≤ n = omega (arith, S .inside) in
+        rw (rep-depth, ← take-take i n slots w, ← take-take i n depths w, R .order, R .depth, rep-place) (parent-at p f rep-has a)
+
+    pub rep-segment : take (e - i) (drop i slots) ≡ pre (part p f)
+    rep-segment = rw (← middle-take i e n slots (omega (arith, rep-after)) rep-within, R .order, rep-end, rep-place) (segment p f rep-has)
+
+    pub rep-segment-depths : take (e - i) (drop i depths) ≡ dep (depth p f) (part p f)
+    rep-segment-depths = rw (← middle-take i e n depths (omega (arith, rep-after)) rep-within, R .depth, rep-end, rep-place) (segment-depths p f rep-has)
+
+    pub rep-post : postOf (take (e - i) (drop i slots)) (take (e - i) (drop i depths)) ≡ post (part p f)
+    rep-post = rw (rep-segment, rep-segment-depths) (post-law (depth p f) (part p f))
+
+    pub rep-children : atDepth (getD depths i 0 + 1) (take (e - i) (drop i slots)) (take (e - i) (drop i depths)) ≡ children p f
+    rep-children = rw (rep-segment, rep-segment-depths, rep-depth, add-one) (children-law (depth p f) p f)
+
+    -- x is p or below it exactly where its place lies in the segment
+    pub rep-below : (x j : ℕ) → j ≡ indexOf x (take n slots) → i ≤ j → j < e → has x (part p f) ≡ true
+    rep-below x j is low high =
+        let w : j ≡ place x f = is ∙ ap (indexOf x) (R .order) in
+        within-below p f rep-has x (omega (arith, rep-place)) (omega (arith, rep-end))
+
+    pub rep-within-below : Once f → (x j : ℕ) → j ≡ indexOf x (take n slots) → has x (part p f) ≡ true → (i ≤ j) × (j < e)
+    rep-within-below o x j is g =
+        let w : j ≡ place x f = is ∙ ap (indexOf x) (R .order) in
+        let b = below-within p f rep-has o x g in
+        (omega (arith, rep-place), omega (arith, rep-end))
+
+    -- ---- changes
+    -- trees as the last children of p
+    pub rep-under : (t : Forest) → n + length (pre t) ≤ 256
+        → Rep (insertAll n e (pre t) slots) (insertAll n e (dep (getD depths i 0 + 1) t) depths) (n + length (pre t)) (under p t f)
+    rep-under t room =
+        rep-insert (under p t f) e (pre t) (dep (getD depths i 0 + 1) t) rep-within (length-dep (getD depths i 0 + 1) t) room
+        (rw rep-end (pre-under p f rep-has t))
+        (rw (rep-end, rep-depth, add-one) (dep-under p f rep-has t))
+
+    -- without p and what is below it
+    pub rep-remove : Rep (cutOut n i e slots) (cutOut n i e depths) (i + (n - e)) (remove p f)
+    rep-remove = rep-cut (remove p f) i e (omega (arith, rep-after)) rep-within (rw (rep-end, rep-place) (pre-remove p f rep-has)) (rw (rep-end, rep-place) (dep-remove p f rep-has))
+
+recount : {slots depths : List ℕ} {m n : ℕ} {f : Forest} → m ≡ n → Rep slots depths m f → Rep slots depths n f
+recount {slots = a} {depths = b} {f = f} e R = subst (λ (k : ℕ). Rep a b k f) e R
+
+-- ---- one new slot
+module _ {slots depths : List ℕ} {n : ℕ} {f : Forest} (R : Rep slots depths n f) (x : ℕ) (room : n < 256) where
+  -- as the last root
+  pub rep-add-root : Rep (insertAll n n (x ∷ []) slots) (insertAll n n (1 ∷ []) depths) (n + 1) (cat f (leaf x))
+  unfolding pre dep
+  rep-add-root = rep-cat R (leaf x) (omega arith)
+
+  -- as the last child of p
+  pub rep-add : {p i e : ℕ} → Segment slots depths n p i e
+      → Rep (insertAll n e (x ∷ []) slots) (insertAll n e ((getD depths i 0 + 1) ∷ []) depths) (n + 1) (under p (leaf x) f)
+  unfolding pre dep
+  rep-add S = rep-under R S (leaf x) (omega arith)
+
+-- ---- a move: p's segment, cut out and put in again
+module _ {slots depths : List ℕ} {n : ℕ} {f : Forest} (R : Rep slots depths n f) {p i e : ℕ} (S : Segment slots depths n p i e) where
+  whole : i + (n - e) + length (pre (part p f)) ≡ n
+  whole = omega (arith, rep-place R S, rep-end R S, rep-after R S, rep-within R S, end-at p f (rep-has R S))
+
+  -- as the last child of q
+  pub rep-moved : {q j g : ℕ} → Segment (cutOut n i e slots) (cutOut n i e depths) (i + (n - e)) q j g
+      → Rep (insertAll (i + (n - e)) g (take (e - i) (drop i slots)) (cutOut n i e slots))
+      (insertAll (i + (n - e)) g (map (rebased (getD depths i 0) (getD (cutOut n i e depths) j 0 + 1)) (take (e - i) (drop i depths))) (cutOut n i e depths))
+      n
+      (under q (part p f) (remove p f))
+  rep-moved {j = j} T =
+      rw (rep-segment R S, rep-segment-depths R S, rep-depth R S, rebased-dep (depth p f) (getD (cutOut n i e depths) j 0 + 1) (part p f))
+      (recount whole (rep-under (rep-remove R S) T (part p f) (omega (arith, whole, R .small))))
+
+  -- as the last root
+  pub rep-moved-root : Rep (insertAll (i + (n - e)) (i + (n - e)) (take (e - i) (drop i slots)) (cutOut n i e slots))
+      (insertAll (i + (n - e)) (i + (n - e)) (map (rebased (getD depths i 0) 1) (take (e - i) (drop i depths))) (cutOut n i e depths))
+      n
+      (cat (remove p f) (part p f))
+  rep-moved-root =
+      rw (rep-segment R S, rep-segment-depths R S, rep-depth R S, rebased-dep (depth p f) 1 (part p f))
+      (recount whole (rep-cat (rep-remove R S) (part p f) (omega (arith, whole, R .small))))
