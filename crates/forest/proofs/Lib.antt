@@ -4,5 +4,6 @@ pub mod Counting
 pub mod Lists
 pub mod Focus
 pub mod Laws
+pub mod Shape
 pub mod Arrays
 pub mod Rep

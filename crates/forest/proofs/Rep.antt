@@ -7,11 +7,13 @@ use native.Mathlib.Numerals.{add-one}
 use native.Mathlib.Omega.{arith}
 use lib.ListN.{length, take, drop, getD, length-append, length-drop, drop-of-length-le}
 use lib.Seq.{take-take, take-all, drop-length, getD-take, length-take-le}
+use Rattle.counting.specs.Lists.{Tells}
 use Rattle.forest.specs.Forest.{Forest, none, tree, leaf, pre, post, dep, has, Once, cat, under, remove, above, part, children, depth}
-use Rattle.forest.specs.Table.{segEnd, indexOf, lastAbove, atDepth, postOf, rebased, insertAll, cutOut}
+use Rattle.forest.specs.Table.{segEnd, indexOf, lastAbove, atDepth, postOf, rebased, depthsFrom, insertAll, cutOut}
 use Rattle.forest.proofs.Lists.{middle-take}
 use Rattle.forest.proofs.Focus.{length-dep, pre-cat, dep-cat}
 use Rattle.forest.proofs.Laws.{place, end, place-there, there-place, missing-place, depth-at, depth-small, end-at, end-after, end-within, segment, segment-depths, parent-at, pre-under, dep-under, pre-remove, dep-remove, within-below, below-within, rebased-dep, post-law, children-law}
+use Rattle.forest.proofs.Shape.{shape-exact, same-forest}
 use Rattle.forest.proofs.Arrays.{take-insertAll, length-insertAll, take-cutOut, length-cutOut}
 
 -- the first n of the two arrays are the slots and the depths of f
@@ -27,6 +29,23 @@ pub record Segment (slots depths : List ℕ) (n p i e : ℕ) : Type 0 where
   pub at : i ≡ indexOf p (take n slots)
   pub inside : i < n
   pub ends : e ≡ segEnd (take n depths) i
+
+-- ---- the test of the depths tells whether there is such a forest; there is one at most
+pub rep-exact : (slots depths : List ℕ) (n : ℕ) → n ≤ 256 → length slots ≡ 256 → length depths ≡ 256 → Tells (depthsFrom 0 (take n depths)) ((f : Forest) × Rep slots depths n f)
+rep-exact slots depths n small size dsize =
+    let l : length (take n slots) ≡ n = length-take-le n slots (omega arith) in
+    let m : length (take n depths) ≡ n = length-take-le n depths (omega arith) in
+    let T = shape-exact (take n slots) (take n depths) (l ∙ sym m) in (
+      λ h. let F = T .0 h in (F .0, record { counted = sym l ∙ ap length (sym (F .1)); order = sym (F .1); depth = sym (F .2); small = small; sizes = (size, dsize) }),
+      λ F. T .1 (F .0, sym (F .1 .order), sym (F .1 .depth)),
+    )
+
+pub rep-same : {slots depths : List ℕ} {n : ℕ} {f g : Forest} → Rep slots depths n f → Rep slots depths n g → f ≡ g
+rep-same {f = f} {g = g} R S = same-forest f g (sym (R .order) ∙ S .order) (sym (R .depth) ∙ S .depth)
+
+pub rep-empty : (slots depths : List ℕ) → length slots ≡ 256 → length depths ≡ 256 → Rep slots depths 0 none
+unfolding pre dep
+rep-empty slots depths size dsize = record { counted = refl; order = refl; depth = refl; small = omega arith; sizes = (size, dsize) }
 
 module _ {slots depths : List ℕ} {n : ℕ} {f : Forest} (R : Rep slots depths n f) where
   pub rep-there : (p i : ℕ) → i ≡ indexOf p (take n slots) → i < n → has p f ≡ true
