@@ -1,9 +1,11 @@
 pub mod Bools
 pub mod Clauses
 pub mod Counting
+pub mod Holds
 pub mod Lists
 pub mod Focus
 pub mod Laws
 pub mod Shape
 pub mod Arrays
 pub mod Rep
+mod Examples

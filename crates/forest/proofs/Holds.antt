@@ -1,0 +1,105 @@
+-- A fact of every slot with what is below it and what is above it: how it is read, how it is shown, and through the changes.
+use Prim.Native.Nat.{ℕ, suc, _+_, _≤_}
+use mathlib.Core.Path.{_≡_, refl, sym, ap, subst, _∙_}
+use mathlib.Core.Bool.{Bool, true, false}
+use mathlib.Core.List.{List, [], _∷_, _++_}
+use lib.Dec.{eqb}
+use Rattle.forest.specs.Forest.{Forest, none, tree, cat, has, Once, under, remove, Spot, spot, kids, above, part, Holds}
+use Rattle.forest.proofs.Bools.{never, same-slot}
+use Rattle.forest.proofs.Clauses.{has-top, has-low, has-late, Stands, here, down, right, stands, under-here, under-down, under-right, under-absent, remove-here, remove-down, remove-right, remove-absent, spot-here, spot-down, spot-right}
+use Rattle.forest.proofs.Counting.{once-below, once-beside, not-below, not-beside, beside-not-below}
+
+-- ---- read at one slot
+module _ (P : ℕ → Forest → List ℕ → Type 0) (x : ℕ) where
+  part-stands : (l : List ℕ) {f : Forest} → Stands x f → Holds P l f → P x (spot x l f .kids) (spot x l f .above) × Holds P (x ∷ spot x l f .above) (spot x l f .kids)
+  part-stands l (here {c = c} {s = s}) H = rw (spot-here x l c s) (H .0, H .1)
+  part-stands l (down {y = y} {c = c} {s = s} e h S) H = rw (spot-down x l y c s e h) (part-stands (y ∷ l) S (H .1))
+  part-stands l (right {y = y} {c = c} {s = s} e h S) H = rw (spot-right x l y c s e h) (part-stands l S (H .2))
+
+  -- of x, and of all that is below it
+  pub holds-part : (l : List ℕ) (f : Forest) → has x f ≡ true → Holds P l f → P x (spot x l f .kids) (spot x l f .above) × Holds P (x ∷ spot x l f .above) (spot x l f .kids)
+  holds-part l f h H = part-stands l (stands x f h) H
+
+  pub holds-at : (l : List ℕ) (f : Forest) → has x f ≡ true → Holds P l f → P x (spot x l f .kids) (spot x l f .above)
+  holds-at l f h H = holds-part l f h H .0
+
+-- ---- shown of all, from each slot
+pub holds-all : (P : ℕ → Forest → List ℕ → Type 0) (l : List ℕ) (f : Forest) → Once f → ((x : ℕ) → has x f ≡ true → P x (spot x l f .kids) (spot x l f .above)) → Holds P l f
+holds-all P l none o a = tt
+holds-all P l (tree y c s) o a = (
+  rw (spot-here y l c s) at (a y (has-top y c s)),
+  holds-all P (y ∷ l) c (once-below y c s o) (λ x h. rw (spot-down x l y c s (not-below y c s o x h) h) at (a x (has-low x y c s h))),
+  holds-all P l s (once-beside y c s o) (λ x h. rw (spot-right x l y c s (not-beside y c s o x h) (beside-not-below y c s o x h)) at (a x (has-late x y c s h))),
+)
+
+-- ---- one fact from another, where the slot is known to be in the forest; the second of all slots at once
+module _ (P Q : ℕ → Forest → List ℕ → Type 0) where
+  pub holds-map-in : (l : List ℕ) (f : Forest) → ((y : ℕ) (c : Forest) (k : List ℕ) → has y f ≡ true → P y c k → Q y c k) → Holds P l f → Holds Q l f
+  holds-map-in l none g H = tt
+  holds-map-in l (tree y c s) g H = (
+    g y c l (has-top y c s) (H .0),
+    holds-map-in (y ∷ l) c (λ z d k h. g z d k (has-low z y c s h)) (H .1),
+    holds-map-in l s (λ z d k h. g z d k (has-late z y c s h)) (H .2),
+  )
+
+  pub holds-map : (l : List ℕ) (f : Forest) → ((y : ℕ) (c : Forest) (k : List ℕ) → P y c k → Q y c k) → Holds P l f → Holds Q l f
+  holds-map l f g H = holds-map-in l f (λ y c k h. g y c k) H
+
+-- ---- every slot is found where it stands
+abbrev pub Found : Forest → ℕ → Forest → List ℕ → Type 0
+Found f y c l = (has y f ≡ true) × (kids y f ≡ c) × (above y f ≡ l)
+
+pub found : (f : Forest) → Once f → Holds (Found f) [] f
+found f o = holds-all (Found f) [] f o (λ x h. (h, refl, refl))
+
+-- ---- a fact of the parent, where there is one
+abbrev pub Parent : (ℕ → List ℕ → Type 0) → List ℕ → Type 0
+Parent Q [] = Unit {0}
+Parent Q (q ∷ qs) = Q q qs
+
+pub holds-up : (Q : ℕ → List ℕ → Type 0) (l : List ℕ) (f : Forest) → Parent Q l → Holds (λ y c k. Q y k) l f → Holds (λ y c k. Parent Q k) l f
+holds-up Q l none u H = tt
+holds-up Q l (tree y c s) u H = (u, holds-up Q (y ∷ l) c (H .0) (H .1), holds-up Q l s u (H .2))
+
+abbrev pub Above : Forest → ℕ → List ℕ → Type 0
+Above f q qs = (has q f ≡ true) × (above q f ≡ qs)
+
+-- the parent of a slot is in the forest, and above it stands the rest
+pub parent-above : (f : Forest) → Once f → (x : ℕ) → has x f ≡ true → Parent (Above f) (above x f)
+parent-above f o x h =
+    holds-at (λ y c k. Parent (Above f) k) x [] f h
+    (holds-up (Above f) [] f tt (holds-map (Found f) (λ y c k. Above f y k) [] f (λ y c l H. (H .0, H .2)) (found f o)))
+
+-- ---- facts that do not speak of what is below, through the changes
+abbrev pub Each : (ℕ → List ℕ → Type 0) → List ℕ → Forest → Type 0
+Each P l f = Holds (λ y c k. P y k) l f
+
+module _ (P : ℕ → List ℕ → Type 0) where
+  pub each-cat : (l : List ℕ) (f t : Forest) → Each P l f → Each P l t → Each P l (cat f t)
+  unfolding cat
+  each-cat l none t H K = K
+  each-cat l (tree y c s) t H K = (H .0, H .1, each-cat l s t (H .2) K)
+
+  under-stands : (p : ℕ) (t : Forest) → ((k : List ℕ) → Each P k t) → (l : List ℕ) {f : Forest} → Stands p f → Each P l f → Each P l (under p t f)
+  under-stands p t K l (here {c = c} {s = s}) H = rw (under-here p t c s) (H .0, each-cat (p ∷ l) c t (H .1) (K (p ∷ l)), H .2)
+  under-stands p t K l (down {y = y} {c = c} {s = s} e h S) H = rw (under-down p t y c s e h) (H .0, under-stands p t K (y ∷ l) S (H .1), H .2)
+  under-stands p t K l (right {y = y} {c = c} {s = s} e h S) H = rw (under-right p t y c s e h) (H .0, H .1, under-stands p t K l S (H .2))
+
+  pub each-under : (p : ℕ) (t : Forest) → ((k : List ℕ) → Each P k t) → (l : List ℕ) (f : Forest) → Each P l f → Each P l (under p t f)
+  each-under p t K l f H = go (has p f) refl
+    where
+      go : (b : Bool) → has p f ≡ b → Each P l (under p t f)
+      go true h = under-stands p t K l (stands p f h) H
+      go false n = rw (under-absent p t f n) H
+
+  remove-stands : (p : ℕ) (l : List ℕ) {f : Forest} → Stands p f → Each P l f → Each P l (remove p f)
+  remove-stands p l (here {c = c} {s = s}) H = rw (remove-here p c s) (H .2)
+  remove-stands p l (down {y = y} {c = c} {s = s} e h S) H = rw (remove-down p y c s e h) (H .0, remove-stands p (y ∷ l) S (H .1), H .2)
+  remove-stands p l (right {y = y} {c = c} {s = s} e h S) H = rw (remove-right p y c s e h) (H .0, H .1, remove-stands p l S (H .2))
+
+  pub each-remove : (p : ℕ) (l : List ℕ) (f : Forest) → Each P l f → Each P l (remove p f)
+  each-remove p l f H = go (has p f) refl
+    where
+      go : (b : Bool) → has p f ≡ b → Each P l (remove p f)
+      go true h = remove-stands p l (stands p f h) H
+      go false n = rw (remove-absent p f n) H
