@@ -2,10 +2,10 @@
 use Prim.Native.Nat.{ℕ}
 use mathlib.Core.Path.{_≡_, refl, ap}
 use mathlib.Core.Bool.{Bool, true, false}
-use mathlib.Core.List.{List, [], _∷_}
+use mathlib.Core.List.{List, _∷_}
 use lib.Dec.{eqb}
 use borrow.Author.Tests.{eqb-true}
-use Rattle.forest.specs.Forest.{Forest, none, tree, either, has, cat, under, remove, Spot, spot}
+use Rattle.forest.specs.Forest.{Forest, none, tree, either, has, cat, under, remove, spot}
 use Rattle.forest.proofs.Bools.{never, neither, other, either-left, either-right, same-slot}
 
 -- ---- has

@@ -1,8 +1,8 @@
 -- How often a slot stands in a forest, in what the changes leave, and in a forest's lists.
-use Prim.Native.Nat.{ℕ, zero, suc, _+_, _≤_, _<_}
-use mathlib.Core.Path.{_≡_, refl, sym, ap, _∙_}
+use Prim.Native.Nat.{ℕ, _+_, _≤_}
+use mathlib.Core.Path.{_≡_, refl, sym, _∙_}
 use mathlib.Core.Bool.{Bool, true, false}
-use mathlib.Core.List.{List, [], _∷_, _++_, reverse, reverseAux}
+use mathlib.Core.List.{List, [], _∷_, reverse, reverseAux}
 use native.Mathlib.Omega.{arith}
 use native.Mathlib.Decide.{ℕ-discrete}
 use lib.Dec.{eqb}
@@ -10,9 +10,9 @@ use lib.ListN.{length, length-append}
 use borrow.Author.Tests.{eq-eqb, ne-eqb}
 use Rattle.counting.specs.Times.{one, times}
 use Rattle.counting.proofs.Counting.{times-append}
-use Rattle.forest.specs.Forest.{Forest, none, tree, pre, post, cat, tally, has, count, Once, under, remove, Spot, spot, part, kids, above, path}
-use Rattle.forest.proofs.Bools.{never, no-tally, same-slot}
-use Rattle.forest.proofs.Clauses.{lacks, Stands, here, down, right, stands, under-here, under-down, under-right, remove-here, remove-down, remove-right, spot-here, spot-down, spot-right, spot-absent}
+use Rattle.forest.specs.Forest.{Forest, none, tree, pre, post, cat, tally, has, count, Once, under, remove, spot, part, kids, above}
+use Rattle.forest.proofs.Bools.{no-tally, same-slot}
+use Rattle.forest.proofs.Clauses.{lacks, Stands, here, down, right, stands, under-here, under-down, under-right, remove-here, remove-down, remove-right, spot-here, spot-down, spot-right}
 
 -- ---- has and count: there exactly where it stands at least once
 tally-same : (x : ℕ) → tally (eqb x x) ≡ 1
@@ -132,6 +132,13 @@ above-has x p f h n = count-has x f (omega (arith, count-above x p f h))
 
 pub above-apart : (x p : ℕ) (f : Forest) → Once f → has p f ≡ true → 1 ≤ times x (above p f) → has x (part p f) ≡ false
 above-apart x p f o h n = count-lacks x (part p f) (omega (arith, count-above x p f h, o x))
+
+-- what is not removed stays
+pub remove-has : (x p : ℕ) (f : Forest) → has p f ≡ true → has x f ≡ true → has x (part p f) ≡ false → has x (remove p f) ≡ true
+remove-has x p f h g n = count-has x (remove p f) (omega (arith, count-parts x p f h, has-count x f g, lacks-count x (part p f) n))
+
+pub remove-lacks : (x p : ℕ) (f : Forest) → Once f → has p f ≡ true → has x (part p f) ≡ true → has x (remove p f) ≡ false
+remove-lacks x p f o h g = count-lacks x (remove p f) (omega (arith, count-parts x p f h, has-count x (part p f) g, o x))
 
 -- what is below a node is in the forest
 pub part-has : (x p : ℕ) (f : Forest) → has p f ≡ true → has x (part p f) ≡ true → has x f ≡ true

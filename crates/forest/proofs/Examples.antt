@@ -1,9 +1,9 @@
 -- Worked rows: the definitions compute.
 use mathlib.Core.Path.{_≡_, refl}
-use mathlib.Core.Bool.{Bool, true, false}
+use mathlib.Core.Bool.{true, false}
 use mathlib.Core.List.{List, [], _∷_, map}
 use Prim.Native.Nat.{ℕ}
-use Rattle.forest.specs.Forest.{Forest, none, tree, leaf, pre, post, dep, roots, has, cat, under, remove, spot, part, children, path, depth}
+use Rattle.forest.specs.Forest.{Forest, tree, leaf, pre, post, dep, roots, has, cat, under, remove, spot, part, children, path, depth}
 use Rattle.forest.specs.Table.{run, segEnd, indexOf, lastAbove, atDepth, postOf, rebased, depthsFrom, insertAll, cutOut}
 
 -- 1 has the children 2 and 3, 2 the child 5; 4 is a second root

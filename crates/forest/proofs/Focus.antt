@@ -1,16 +1,16 @@
 -- A node in its forest's table: one induction, the record `Focus`, from which every law of the table comes.
 use mathlib.Core.Path.{_≡_, refl, sym, ap, _∙_}
-use mathlib.Core.Bool.{Bool, true, false}
-use mathlib.Core.List.{List, [], _∷_, _++_, append-assoc, append-nil}
-use Prim.Native.Nat.{ℕ, zero, suc, _+_, _-_, _≤_, _<_}
+use mathlib.Core.Bool.{true, false}
+use mathlib.Core.List.{List, [], _∷_, _++_, append-assoc}
+use Prim.Native.Nat.{ℕ, suc, _+_, _≤_, _<_}
 use native.Mathlib.Omega.{arith}
 use native.Mathlib.Decide.{decLe}
 use borrow.Author.Tests.{eqb-false}
 use lib.Dec.{eqb}
-use lib.ListN.{length, take, drop, getD, length-append}
+use lib.ListN.{length, getD, length-append}
 use Rattle.counting.specs.Times.{one, times}
 use Rattle.counting.proofs.Counting.{miss, times-append}
-use Rattle.forest.specs.Forest.{Forest, none, tree, pre, dep, cat, has, count, under, remove, Spot, spot}
+use Rattle.forest.specs.Forest.{Forest, none, tree, pre, dep, cat, has, under, remove, Spot, spot}
 use Rattle.forest.specs.Table.{run, lastAbove}
 use Rattle.forest.proofs.Clauses.{Stands, here, down, right, stands, under-here, under-down, under-right, remove-here, remove-down, remove-right, spot-here, spot-down, spot-right}
 use Rattle.forest.proofs.Counting.{lacks-count, count-pre}

@@ -1,11 +1,9 @@
 -- A fact of every slot with what is below it and what is above it: how it is read, how it is shown, and through the changes.
-use Prim.Native.Nat.{ℕ, suc, _+_, _≤_}
-use mathlib.Core.Path.{_≡_, refl, sym, ap, subst, _∙_}
+use Prim.Native.Nat.{ℕ}
+use mathlib.Core.Path.{_≡_, refl}
 use mathlib.Core.Bool.{Bool, true, false}
-use mathlib.Core.List.{List, [], _∷_, _++_}
-use lib.Dec.{eqb}
-use Rattle.forest.specs.Forest.{Forest, none, tree, cat, has, Once, under, remove, Spot, spot, kids, above, part, Holds}
-use Rattle.forest.proofs.Bools.{never, same-slot}
+use mathlib.Core.List.{List, [], _∷_}
+use Rattle.forest.specs.Forest.{Forest, none, tree, cat, has, Once, under, remove, spot, kids, above, Holds}
 use Rattle.forest.proofs.Clauses.{has-top, has-low, has-late, Stands, here, down, right, stands, under-here, under-down, under-right, under-absent, remove-here, remove-down, remove-right, remove-absent, spot-here, spot-down, spot-right}
 use Rattle.forest.proofs.Counting.{once-below, once-beside, not-below, not-beside, beside-not-below}
 
@@ -80,16 +78,19 @@ module _ (P : ℕ → List ℕ → Type 0) where
   each-cat l none t H K = K
   each-cat l (tree y c s) t H K = (H .0, H .1, each-cat l s t (H .2) K)
 
-  under-stands : (p : ℕ) (t : Forest) → ((k : List ℕ) → Each P k t) → (l : List ℕ) {f : Forest} → Stands p f → Each P l f → Each P l (under p t f)
-  under-stands p t K l (here {c = c} {s = s}) H = rw (under-here p t c s) (H .0, each-cat (p ∷ l) c t (H .1) (K (p ∷ l)), H .2)
-  under-stands p t K l (down {y = y} {c = c} {s = s} e h S) H = rw (under-down p t y c s e h) (H .0, under-stands p t K (y ∷ l) S (H .1), H .2)
-  under-stands p t K l (right {y = y} {c = c} {s = s} e h S) H = rw (under-right p t y c s e h) (H .0, H .1, under-stands p t K l S (H .2))
+  under-stands : (p : ℕ) (t : Forest) (l : List ℕ) {f : Forest} → Stands p f → Each P (p ∷ spot p l f .above) t → Each P l f → Each P l (under p t f)
+  under-stands p t l (here {c = c} {s = s}) K H = rw (under-here p t c s) (H .0, each-cat (p ∷ l) c t (H .1) (rw (spot-here p l c s) at K), H .2)
+  under-stands p t l (down {y = y} {c = c} {s = s} e h S) K H =
+      rw (under-down p t y c s e h) (H .0, under-stands p t (y ∷ l) S (rw (spot-down p l y c s e h) at K) (H .1), H .2)
+  under-stands p t l (right {y = y} {c = c} {s = s} e h S) K H =
+      rw (under-right p t y c s e h) (H .0, H .1, under-stands p t l S (rw (spot-right p l y c s e h) at K) (H .2))
 
-  pub each-under : (p : ℕ) (t : Forest) → ((k : List ℕ) → Each P k t) → (l : List ℕ) (f : Forest) → Each P l f → Each P l (under p t f)
-  each-under p t K l f H = go (has p f) refl
+  -- of t, with p above it
+  pub each-under : (p : ℕ) (t : Forest) (l : List ℕ) (f : Forest) → (has p f ≡ true → Each P (p ∷ spot p l f .above) t) → Each P l f → Each P l (under p t f)
+  each-under p t l f K H = go (has p f) refl
     where
       go : (b : Bool) → has p f ≡ b → Each P l (under p t f)
-      go true h = under-stands p t K l (stands p f h) H
+      go true h = under-stands p t l (stands p f h) (K h) H
       go false n = rw (under-absent p t f n) H
 
   remove-stands : (p : ℕ) (l : List ℕ) {f : Forest} → Stands p f → Each P l f → Each P l (remove p f)

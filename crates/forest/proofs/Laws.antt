@@ -1,18 +1,20 @@
 -- The laws of a forest's table: where a node and its segment stand, what is read there, and what the changes do to the two lists.
 use mathlib.Core.Path.{_≡_, refl, sym, ap, _∙_}
-use mathlib.Core.Bool.{Bool, true, false}
+use mathlib.Core.Bool.{Bool, true, false, _&&_}
 use mathlib.Core.List.{List, [], _∷_, _++_, map, map-append, append-assoc, append-nil}
-use Prim.Native.Nat.{ℕ, zero, suc, _+_, _-_, _≤_, _<_}
+use Prim.Native.Nat.{ℕ, suc, _+_, _-_, _≤_, _<_}
 use native.Mathlib.Nat.{suc-add, zero-add}
 use native.Mathlib.Omega.{arith}
+use lib.Dec.{leb, ltb}
 use lib.ListN.{length, take, drop, getD, length-append}
 use lib.Seq.{take-at, drop-at, getD-at}
-use Rattle.counting.specs.Times.{one, times}
+use Rattle.counting.specs.Times.{times}
 use Rattle.counting.proofs.Counting.{times-append}
-use Rattle.forest.specs.Forest.{Forest, none, tree, pre, post, dep, roots, has, count, Once, cat, under, remove, Spot, spot, kids, above, part, children, depth}
+use Rattle.counting.proofs.Kit.{same, both, at-most, less}
+use Rattle.forest.specs.Forest.{Forest, none, tree, pre, post, dep, roots, has, count, Once, under, remove, spot, kids, above, part, children, depth}
 use Rattle.forest.specs.Table.{run, segEnd, indexOf, lastAbove, atDepth, postOf, rebased}
-use Rattle.forest.proofs.Counting.{has-count, lacks-count, count-has, count-lacks, count-pre, length-post}
-use Rattle.forest.proofs.Lists.{run-append, run-higher, index-here, index-past, index-within, at-yes, at-no, drop-past, Three, three-insert, three-cut, three-before, three-part, three-within, three-found}
+use Rattle.forest.proofs.Counting.{has-count, lacks-count, count-has, count-pre, length-post}
+use Rattle.forest.proofs.Lists.{run-append, run-higher, index-here, index-past, index-within, at-yes, at-no, drop-past, Three, three-insert, three-cut, three-before, three-after, three-part, three-within, three-found}
 use Rattle.forest.proofs.Focus.{length-dep, run-deep, run-sibling, Focus, focus}
 
 -- ---- a node's place, and where its segment ends
@@ -103,6 +105,16 @@ module _ (p : ℕ) (f : Forest) (h : has p f ≡ true) where
   unfolding dep
   segment-depths = three-part (depths-three p f F) ∙ simp append-nil
 
+  -- behind its own place comes what is below it, and then what is behind its segment
+  pub rest-at : drop (place p f + 1) (pre f) ≡ pre (kids p f) ++ drop (end p f) (pre f)
+  rest-at =
+      rw (three-after (slots-three p f F)) (ap (drop (place p f + 1)) (F .slots) ∙ drop-past (F .before) p (pre (kids p f) ++ F .after) (place p f) (place-is p f F))
+
+  pub rest-depths-at : drop (place p f + 1) (dep 1 f) ≡ dep (suc (depth p f)) (kids p f) ++ drop (end p f) (dep 1 f)
+  rest-depths-at =
+      rw (three-after (depths-three p f F))
+      (ap (drop (place p f + 1)) (F .depths) ∙ drop-past (F .dbefore) (depth p f) (dep (suc (depth p f)) (kids p f) ++ F .dafter) (place p f) (dplace-is p f F))
+
   -- ---- its parent, or a
   pub parent-at : (a : ℕ) → lastAbove (depth p f) a (take (place p f) (pre f)) (take (place p f) (dep 1 f)) ≡ getD (above p f) 0 a
   parent-at a = rw (three-before (slots-three p f F), three-before (depths-three p f F)) (F .up a)
@@ -135,6 +147,12 @@ module _ (p : ℕ) (f : Forest) (h : has p f ≡ true) where
       ap (times x) (F .slots) ∙ times-append x (F .before) (p ∷ (pre (kids p f) ++ F .after))
       ∙ ap (λ (k : ℕ). times x (F .before) + k) (times-append x (p ∷ pre (kids p f)) (F .after)) in
       three-found (slots-three p f F) x (omega (arith, times-part x, count-pre x f, o x)) (omega (arith, times-part x))
+
+  pub below-test : Once f → (x : ℕ) → has x (part p f) ≡ leb (place p f) (place x f) && ltb (place x f) (end p f)
+  below-test o x =
+      same {P = (place p f ≤ place x f) × (place x f < end p f)} (has x (part p f)) (leb (place p f) (place x f) && ltb (place x f) (end p f))
+      (below-within o x, λ b. within-below x (b .0) (b .1))
+      (both (leb (place p f) (place x f)) (ltb (place x f) (end p f)) (at-most (place p f) (place x f)) (less (place x f) (end p f)))
 
 -- ---- a whole forest's lists: depths counted from another place, post-order, the slots at one depth
 rebased-from : (d e : ℕ) (f : Forest) (k : ℕ) → map (rebased d e) (dep (k + d) f) ≡ dep (k + e) f

@@ -6,6 +6,7 @@ pub mod Lists
 pub mod Focus
 pub mod Laws
 pub mod Shape
+pub mod Walk
 pub mod Arrays
 pub mod Rep
 mod Examples

@@ -1,15 +1,14 @@
 -- The table's functions on lists: their clauses as equations, and on one list behind another.
-use mathlib.Core.Path.{_≡_, refl, sym, ap, _∙_}
-use mathlib.Core.Bool.{Bool, true, false}
+use mathlib.Core.Path.{_≡_, refl, sym, _∙_}
+use mathlib.Core.Bool.{true, false}
 use mathlib.Core.List.{List, [], _∷_, _++_, append-assoc}
 use Prim.Native.Nat.{ℕ, zero, suc, _+_, _-_, _≤_, _<_}
 use native.Mathlib.Nat.{le-of-suc-le-suc, not-suc-le-zero, suc-sub-suc, sub-zero}
-use native.Mathlib.Numerals.{add-one}
 use native.Mathlib.Omega.{arith}
 use native.Mathlib.Decide.{decLe, ℕ-discrete}
 use borrow.Author.Tests.{lt-ltb, le-ltb, eq-eqb, ne-eqb}
 use lib.Dec.{ltb, eqb}
-use lib.ListN.{length, take, drop, getD, length-append}
+use lib.ListN.{length, take, drop, length-append}
 use lib.Seq.{append-snoc, take-at, drop-at, take-nil, take-take}
 use Rattle.counting.specs.Times.{one, times}
 use Rattle.counting.proofs.Counting.{hit, miss}

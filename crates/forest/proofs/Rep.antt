@@ -1,19 +1,22 @@
 -- Two arrays and a count as the table of a forest: what is read from them, and that every change keeps it so.
 use mathlib.Core.Path.{_≡_, refl, sym, ap, ap₂, subst, _∙_}
-use mathlib.Core.Bool.{Bool, true, false}
+use mathlib.Core.Bool.{true, false, _&&_}
 use mathlib.Core.List.{List, [], _∷_, _++_, map, append-nil}
-use Prim.Native.Nat.{ℕ, zero, suc, _+_, _-_, _≤_, _<_}
+use Prim.Native.Nat.{ℕ, _+_, _-_, _≤_, _<_}
 use native.Mathlib.Numerals.{add-one}
 use native.Mathlib.Omega.{arith}
-use lib.ListN.{length, take, drop, getD, length-append, length-drop, drop-of-length-le}
-use lib.Seq.{take-take, take-all, drop-length, getD-take, length-take-le}
+use lib.Dec.{leb, ltb}
+use lib.ListN.{length, take, drop, getD, drop-of-length-le}
+use lib.Seq.{take-take, take-all, getD-take, length-take-le}
 use Rattle.counting.specs.Lists.{Tells}
-use Rattle.forest.specs.Forest.{Forest, none, tree, leaf, pre, post, dep, has, Once, cat, under, remove, above, part, children, depth}
+use Rattle.forest.specs.Forest.{Forest, none, leaf, pre, post, dep, has, Once, cat, under, remove, above, part, children, depth}
 use Rattle.forest.specs.Table.{segEnd, indexOf, lastAbove, atDepth, postOf, rebased, depthsFrom, insertAll, cutOut}
+use Rattle.forest.specs.Walk.{next, prev}
 use Rattle.forest.proofs.Lists.{middle-take}
 use Rattle.forest.proofs.Focus.{length-dep, pre-cat, dep-cat}
-use Rattle.forest.proofs.Laws.{place, end, place-there, there-place, missing-place, depth-at, depth-small, end-at, end-after, end-within, segment, segment-depths, parent-at, pre-under, dep-under, pre-remove, dep-remove, within-below, below-within, rebased-dep, post-law, children-law}
+use Rattle.forest.proofs.Laws.{place, end, there-place, missing-place, depth-at, end-at, end-after, end-within, segment, segment-depths, parent-at, pre-under, dep-under, pre-remove, dep-remove, within-below, below-test, rebased-dep, post-law, children-law}
 use Rattle.forest.proofs.Shape.{shape-exact, same-forest}
+use Rattle.forest.proofs.Walk.{next-low, next-root, next-last, prev-low, prev-root}
 use Rattle.forest.proofs.Arrays.{take-insertAll, length-insertAll, take-cutOut, length-cutOut}
 
 -- the first n of the two arrays are the slots and the depths of f
@@ -24,10 +27,14 @@ pub record Rep (slots depths : List ℕ) (n : ℕ) (f : Forest) : Type 0 where
   pub small : n ≤ 256
   pub sizes : (length slots ≡ 256) × (length depths ≡ 256)
 
--- p stands at the place i, and its segment ends at e
-pub record Segment (slots depths : List ℕ) (n p i e : ℕ) : Type 0 where
-  pub at : i ≡ indexOf p (take n slots)
+-- p stands at the place i
+pub record At (slots : List ℕ) (n p i : ℕ) : Type 0 where
+  pub found : i ≡ indexOf p (take n slots)
   pub inside : i < n
+
+-- and its segment ends at e
+pub record Segment (slots depths : List ℕ) (n p i e : ℕ) : Type 0 where
+  pub at : At slots n p i
   pub ends : e ≡ segEnd (take n depths) i
 
 -- ---- the test of the depths tells whether there is such a forest; there is one at most
@@ -48,11 +55,50 @@ unfolding pre dep
 rep-empty slots depths size dsize = record { counted = refl; order = refl; depth = refl; small = omega arith; sizes = (size, dsize) }
 
 module _ {slots depths : List ℕ} {n : ℕ} {f : Forest} (R : Rep slots depths n f) where
-  pub rep-there : (p i : ℕ) → i ≡ indexOf p (take n slots) → i < n → has p f ≡ true
-  rep-there p i is h = there-place p f (rw (← R .counted, ← R .order, ← is) h)
-
   pub rep-missing : (p i : ℕ) → i ≡ indexOf p (take n slots) → n ≤ i → has p f ≡ false
   rep-missing p i is h = missing-place p f (rw (← R .counted, ← R .order, ← is) h)
+
+  -- ---- of a node at the place i
+  module _ {p i : ℕ} (A : At slots n p i) where
+    pub rep-has : has p f ≡ true
+    rep-has = there-place p f (rw (← R .counted, ← R .order, ← A .found) (A .inside))
+
+    pub rep-place : i ≡ place p f
+    rep-place = A .found ∙ ap (indexOf p) (R .order)
+
+    pub rep-depth : getD depths i 0 ≡ depth p f
+    rep-depth = sym (getD-take n depths i 0 (A .inside)) ∙ rw (R .depth, rep-place) (depth-at p f rep-has)
+
+    pub rep-parent : (a : ℕ) → lastAbove (getD depths i 0) a (take i slots) (take i depths) ≡ getD (above p f) 0 a
+    rep-parent a =
+        let w : i ≤ n = omega (arith, A .inside) in
+        rw (rep-depth, ← take-take i n slots w, ← take-take i n depths w, R .order, R .depth, rep-place) (parent-at p f rep-has a)
+
+    -- ---- its neighbours in the walk, or a
+    slot-near : (j : ℕ) → j < n → getD slots j 0 ≡ getD (pre f) j 0
+    slot-near j h = sym (getD-take n slots j 0 h) ∙ ap (λ (l : List ℕ). getD l j 0) (R .order)
+
+    depth-next : i + 1 < n → getD depths (i + 1) 0 ≡ getD (dep 1 f) (place p f + 1) 0
+    depth-next h = sym (getD-take n depths (i + 1) 0 h) ∙ rw (R .depth, rep-place)
+
+    inner : i + 1 < n → place p f + 1 < length (pre f)
+    inner h = omega (arith, rep-place, R .counted)
+
+    module _ (o : Once f) (a : ℕ) where
+      pub rep-next-low : i + 1 < n → (getD depths (i + 1) 0 ≡ 1 → ⊥) → next a f p ≡ getD slots (i + 1) 0
+      rep-next-low h m = next-low f a o p rep-has (inner h) (λ e. m (depth-next h ∙ e)) ∙ rw (slot-near (i + 1) h, rep-place)
+
+      pub rep-next-root : i + 1 < n → getD depths (i + 1) 0 ≡ 1 → next a f p ≡ a
+      rep-next-root h e = next-root f a o p rep-has (inner h) (sym (depth-next h) ∙ e)
+
+      pub rep-next-last : n ≤ i + 1 → next a f p ≡ a
+      rep-next-last h = next-last f a o p rep-has (omega (arith, rep-place, R .counted))
+
+      pub rep-prev-low : (getD depths i 0 ≡ 1 → ⊥) → prev a f p ≡ getD slots (i - 1) 0
+      rep-prev-low m = prev-low f a o p rep-has (λ e. m (rep-depth ∙ e)) ∙ rw (slot-near (i - 1) (omega (arith, A .inside)), rep-place)
+
+      pub rep-prev-root : getD depths i 0 ≡ 1 → prev a f p ≡ a
+      rep-prev-root e = prev-root f a o p rep-has (sym rep-depth ∙ e)
 
   -- ys and zs put in at e
   rep-insert : (g : Forest) (e : ℕ) (ys zs : List ℕ) → e ≤ n → length zs ≡ length ys → n + length ys ≤ 256 → pre g ≡ take e (pre f) ++ (ys ++ drop e (pre f))
@@ -99,53 +145,42 @@ module _ {slots depths : List ℕ} {n : ℕ} {f : Forest} (R : Rep slots depths 
       (dep-cat 1 f t ∙ all (dep 1 f) (dep 1 t) (length-dep 1 f ∙ sym (R .counted)))
 
   module _ {p i e : ℕ} (S : Segment slots depths n p i e) where
-    pub rep-has : has p f ≡ true
-    rep-has = rep-there p i (S .at) (S .inside)
+    live : has p f ≡ true
+    live = rep-has (S .at)
 
-    pub rep-place : i ≡ place p f
-    rep-place = S .at ∙ ap (indexOf p) (R .order)
+    starts : i ≡ place p f
+    starts = rep-place (S .at)
 
     pub rep-end : e ≡ end p f
-    rep-end = S .ends ∙ ap₂ segEnd (R .depth) rep-place
+    rep-end = S .ends ∙ ap₂ segEnd (R .depth) starts
 
     pub rep-after : i < e
-    rep-after = omega (arith, rep-place, rep-end, end-after p f rep-has)
+    rep-after = omega (arith, starts, rep-end, end-after p f live)
 
     pub rep-within : e ≤ n
-    rep-within = omega (arith, rep-end, R .counted, end-within p f rep-has)
-
-    pub rep-depth : getD depths i 0 ≡ depth p f
-    rep-depth = sym (getD-take n depths i 0 (S .inside)) ∙ rw (R .depth, rep-place) (depth-at p f rep-has)
+    rep-within = omega (arith, rep-end, R .counted, end-within p f live)
 
     -- ---- what is read there
-    pub rep-parent : (a : ℕ) → lastAbove (getD depths i 0) a (take i slots) (take i depths) ≡ getD (above p f) 0 a
-    rep-parent a =
-        let w : i ≤ n = omega (arith, S .inside) in
-        rw (rep-depth, ← take-take i n slots w, ← take-take i n depths w, R .order, R .depth, rep-place) (parent-at p f rep-has a)
-
     pub rep-segment : take (e - i) (drop i slots) ≡ pre (part p f)
-    rep-segment = rw (← middle-take i e n slots (omega (arith, rep-after)) rep-within, R .order, rep-end, rep-place) (segment p f rep-has)
+    rep-segment = rw (← middle-take i e n slots (omega (arith, rep-after)) rep-within, R .order, rep-end, starts) (segment p f live)
 
     pub rep-segment-depths : take (e - i) (drop i depths) ≡ dep (depth p f) (part p f)
-    rep-segment-depths = rw (← middle-take i e n depths (omega (arith, rep-after)) rep-within, R .depth, rep-end, rep-place) (segment-depths p f rep-has)
+    rep-segment-depths = rw (← middle-take i e n depths (omega (arith, rep-after)) rep-within, R .depth, rep-end, starts) (segment-depths p f live)
 
     pub rep-post : postOf (take (e - i) (drop i slots)) (take (e - i) (drop i depths)) ≡ post (part p f)
     rep-post = rw (rep-segment, rep-segment-depths) (post-law (depth p f) (part p f))
 
     pub rep-children : atDepth (getD depths i 0 + 1) (take (e - i) (drop i slots)) (take (e - i) (drop i depths)) ≡ children p f
-    rep-children = rw (rep-segment, rep-segment-depths, rep-depth, add-one) (children-law (depth p f) p f)
+    rep-children = rw (rep-segment, rep-segment-depths, rep-depth (S .at), add-one) (children-law (depth p f) p f)
 
     -- x is p or below it exactly where its place lies in the segment
-    pub rep-below : (x j : ℕ) → j ≡ indexOf x (take n slots) → i ≤ j → j < e → has x (part p f) ≡ true
-    rep-below x j is low high =
+    pub rep-within-below : (x j : ℕ) → j ≡ indexOf x (take n slots) → i ≤ j → j < e → has x (part p f) ≡ true
+    rep-within-below x j is low high =
         let w : j ≡ place x f = is ∙ ap (indexOf x) (R .order) in
-        within-below p f rep-has x (omega (arith, rep-place)) (omega (arith, rep-end))
+        within-below p f live x (omega (arith, starts)) (omega (arith, rep-end))
 
-    pub rep-within-below : Once f → (x j : ℕ) → j ≡ indexOf x (take n slots) → has x (part p f) ≡ true → (i ≤ j) × (j < e)
-    rep-within-below o x j is g =
-        let w : j ≡ place x f = is ∙ ap (indexOf x) (R .order) in
-        let b = below-within p f rep-has o x g in
-        (omega (arith, rep-place), omega (arith, rep-end))
+    pub rep-below-test : Once f → (x j : ℕ) → j ≡ indexOf x (take n slots) → has x (part p f) ≡ leb i j && ltb j e
+    rep-below-test o x j is = let w : j ≡ place x f = is ∙ ap (indexOf x) (R .order) in rw (w, rep-end, starts) (below-test p f live o x)
 
     -- ---- changes
     -- trees as the last children of p
@@ -153,12 +188,12 @@ module _ {slots depths : List ℕ} {n : ℕ} {f : Forest} (R : Rep slots depths 
         → Rep (insertAll n e (pre t) slots) (insertAll n e (dep (getD depths i 0 + 1) t) depths) (n + length (pre t)) (under p t f)
     rep-under t room =
         rep-insert (under p t f) e (pre t) (dep (getD depths i 0 + 1) t) rep-within (length-dep (getD depths i 0 + 1) t) room
-        (rw rep-end (pre-under p f rep-has t))
-        (rw (rep-end, rep-depth, add-one) (dep-under p f rep-has t))
+        (rw rep-end (pre-under p f live t))
+        (rw (rep-end, rep-depth (S .at), add-one) (dep-under p f live t))
 
     -- without p and what is below it
     pub rep-remove : Rep (cutOut n i e slots) (cutOut n i e depths) (i + (n - e)) (remove p f)
-    rep-remove = rep-cut (remove p f) i e (omega (arith, rep-after)) rep-within (rw (rep-end, rep-place) (pre-remove p f rep-has)) (rw (rep-end, rep-place) (dep-remove p f rep-has))
+    rep-remove = rep-cut (remove p f) i e (omega (arith, rep-after)) rep-within (rw (rep-end, starts) (pre-remove p f live)) (rw (rep-end, starts) (dep-remove p f live))
 
 recount : {slots depths : List ℕ} {m n : ℕ} {f : Forest} → m ≡ n → Rep slots depths m f → Rep slots depths n f
 recount {slots = a} {depths = b} {f = f} e R = subst (λ (k : ℕ). Rep a b k f) e R
@@ -179,7 +214,7 @@ module _ {slots depths : List ℕ} {n : ℕ} {f : Forest} (R : Rep slots depths 
 -- ---- a move: p's segment, cut out and put in again
 module _ {slots depths : List ℕ} {n : ℕ} {f : Forest} (R : Rep slots depths n f) {p i e : ℕ} (S : Segment slots depths n p i e) where
   whole : i + (n - e) + length (pre (part p f)) ≡ n
-  whole = omega (arith, rep-place R S, rep-end R S, rep-after R S, rep-within R S, end-at p f (rep-has R S))
+  whole = omega (arith, rep-place R (S .at), rep-end R S, rep-after R S, rep-within R S, end-at p f (rep-has R (S .at)))
 
   -- as the last child of q
   pub rep-moved : {q j g : ℕ} → Segment (cutOut n i e slots) (cutOut n i e depths) (i + (n - e)) q j g
@@ -188,7 +223,7 @@ module _ {slots depths : List ℕ} {n : ℕ} {f : Forest} (R : Rep slots depths 
       n
       (under q (part p f) (remove p f))
   rep-moved {j = j} T =
-      rw (rep-segment R S, rep-segment-depths R S, rep-depth R S, rebased-dep (depth p f) (getD (cutOut n i e depths) j 0 + 1) (part p f))
+      rw (rep-segment R S, rep-segment-depths R S, rep-depth R (S .at), rebased-dep (depth p f) (getD (cutOut n i e depths) j 0 + 1) (part p f))
       (recount whole (rep-under (rep-remove R S) T (part p f) (omega (arith, whole, R .small))))
 
   -- as the last root
@@ -197,5 +232,5 @@ module _ {slots depths : List ℕ} {n : ℕ} {f : Forest} (R : Rep slots depths 
       n
       (cat (remove p f) (part p f))
   rep-moved-root =
-      rw (rep-segment R S, rep-segment-depths R S, rep-depth R S, rebased-dep (depth p f) 1 (part p f))
+      rw (rep-segment R S, rep-segment-depths R S, rep-depth R (S .at), rebased-dep (depth p f) 1 (part p f))
       (recount whole (rep-cat (rep-remove R S) (part p f) (omega (arith, whole, R .small))))
