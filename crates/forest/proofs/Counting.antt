@@ -10,7 +10,7 @@ use lib.ListN.{length, length-append}
 use borrow.Author.Tests.{eq-eqb, ne-eqb}
 use Rattle.counting.specs.Times.{one, times}
 use Rattle.counting.proofs.Counting.{times-append}
-use Rattle.forest.specs.Forest.{Forest, none, tree, pre, post, cat, tally, has, count, Once, under, remove, spot, part, kids, above}
+use Rattle.forest.specs.Forest.{Forest, none, tree, pre, post, cat, either, tally, has, count, Once, under, remove, spot, part, kids, above}
 use Rattle.forest.proofs.Bools.{no-tally, same-slot}
 use Rattle.forest.proofs.Clauses.{lacks, Stands, here, down, right, stands, under-here, under-down, under-right, remove-here, remove-down, remove-right, spot-here, spot-down, spot-right}
 
@@ -113,6 +113,27 @@ module _ (x p : ℕ) where
   unfolding count times
   count-above f h = omega (arith, above-stands [] (stands p f h))
 
+-- ---- what is in the forest after a change
+has-sum : (x : ℕ) (f g h : Forest) → count x h ≡ count x f + count x g → has x h ≡ either (has x f) (has x g)
+has-sum x f g h e = go (has x f) refl (has x g) refl
+  where
+    go : (a : Bool) → has x f ≡ a → (b : Bool) → has x g ≡ b → has x h ≡ either a b
+    go true u b v = count-has x h (omega (arith, has-count x f u))
+    go false u true v = count-has x h (omega (arith, has-count x g v))
+    go false u false v = count-lacks x h (omega (arith, lacks-count x f u, lacks-count x g v))
+
+pub has-cat : (x : ℕ) (f t : Forest) → has x (cat f t) ≡ either (has x f) (has x t)
+has-cat x f t = has-sum x f t (cat f t) (count-cat x f t)
+
+pub has-under : (x p : ℕ) (t f : Forest) → has p f ≡ true → has x (under p t f) ≡ either (has x f) (has x t)
+has-under x p t f h = has-sum x f t (under p t f) (count-under x p t f h)
+
+pub has-parts : (x p : ℕ) (f : Forest) → has p f ≡ true → has x f ≡ either (has x (remove p f)) (has x (part p f))
+has-parts x p f h = has-sum x (remove p f) (part p f) f (sym (count-parts x p f h))
+
+pub once-cat : (f t : Forest) → ((x : ℕ) → count x f + count x t ≤ 1) → Once (cat f t)
+once-cat f t o x = omega (arith, count-cat x f t, o x)
+
 pub once-under : (p : ℕ) (t f : Forest) → has p f ≡ true → ((x : ℕ) → count x f + count x t ≤ 1) → Once (under p t f)
 once-under p t f h o x = omega (arith, count-under x p t f h, o x)
 
@@ -125,6 +146,9 @@ once-part p f h o x = omega (arith, count-parts x p f h, o x)
 -- a node moved with what is below it
 pub once-moved : (p q : ℕ) (f : Forest) → has p f ≡ true → has q (remove p f) ≡ true → Once f → Once (under q (part p f) (remove p f))
 once-moved p q f h g o = once-under q (part p f) (remove p f) g (λ x. omega (arith, count-parts x p f h, o x))
+
+pub once-moved-root : (p : ℕ) (f : Forest) → has p f ≡ true → Once f → Once (cat (remove p f) (part p f))
+once-moved-root p f h o = once-cat (remove p f) (part p f) (λ x. omega (arith, count-parts x p f h, o x))
 
 -- what is above a node is in the forest, and is not the node, and not below it
 pub above-has : (x p : ℕ) (f : Forest) → has p f ≡ true → 1 ≤ times x (above p f) → has x f ≡ true

@@ -4,6 +4,7 @@ use mathlib.Core.Bool.{true, false}
 use mathlib.Core.List.{List, [], _∷_, map}
 use Prim.Native.Nat.{ℕ}
 use Rattle.forest.specs.Forest.{Forest, tree, leaf, pre, post, dep, roots, has, cat, under, remove, spot, part, children, path, depth}
+use Rattle.forest.specs.Walk.{behind, nextUp, next, lastIn, ahead, prevUp, prev}
 use Rattle.forest.specs.Table.{run, segEnd, indexOf, lastAbove, atDepth, postOf, rebased, depthsFrom, insertAll, cutOut}
 
 -- 1 has the children 2 and 3, 2 the child 5; 4 is a second root
@@ -51,6 +52,35 @@ removed = refl
 moved : pre (under 4 (part 2 f0) (remove 2 f0)) ≡ 1 ∷ 3 ∷ 4 ∷ 2 ∷ 5 ∷ []
 unfolding pre under has cat remove spot
 moved = refl
+
+-- ---- neighbours in the walk, 256 for none: a child, a sibling, a parent's sibling; not over to another root
+next-child : next 256 f0 1 ≡ 2
+unfolding nextUp spot has roots
+next-child = refl
+
+next-further-up : next 256 f0 5 ≡ 3
+unfolding nextUp behind spot has roots
+next-further-up = refl
+
+next-of-last : next 256 f0 3 ≡ 256
+unfolding nextUp behind spot has roots
+next-of-last = refl
+
+next-of-root : next 256 f0 4 ≡ 256
+unfolding nextUp behind spot has roots
+next-of-root = refl
+
+prev-below-sibling : prev 256 f0 3 ≡ 5
+unfolding prevUp ahead lastIn spot has roots
+prev-below-sibling = refl
+
+prev-parent : prev 256 f0 2 ≡ 1
+unfolding prevUp ahead lastIn spot has roots
+prev-parent = refl
+
+prev-of-root : prev 256 f0 4 ≡ 256
+unfolding prevUp ahead lastIn spot has roots
+prev-of-root = refl
 
 -- ---- the same from the table
 ends : segEnd depth0 1 ≡ 3

@@ -1,11 +1,12 @@
 -- A fact of every slot with what is below it and what is above it: how it is read, how it is shown, and through the changes.
 use Prim.Native.Nat.{ℕ}
-use mathlib.Core.Path.{_≡_, refl}
+use mathlib.Core.Path.{_≡_, refl, sym, _∙_}
 use mathlib.Core.Bool.{Bool, true, false}
 use mathlib.Core.List.{List, [], _∷_}
 use Rattle.forest.specs.Forest.{Forest, none, tree, cat, has, Once, under, remove, spot, kids, above, Holds}
+use Rattle.forest.proofs.Bools.{never, either-left}
 use Rattle.forest.proofs.Clauses.{has-top, has-low, has-late, Stands, here, down, right, stands, under-here, under-down, under-right, under-absent, remove-here, remove-down, remove-right, remove-absent, spot-here, spot-down, spot-right}
-use Rattle.forest.proofs.Counting.{once-below, once-beside, not-below, not-beside, beside-not-below}
+use Rattle.forest.proofs.Counting.{once-below, once-beside, not-below, not-beside, beside-not-below, has-cat, has-under}
 
 -- ---- read at one slot
 module _ (P : ℕ → Forest → List ℕ → Type 0) (x : ℕ) where
@@ -104,3 +105,36 @@ module _ (P : ℕ → List ℕ → Type 0) where
       go : (b : Bool) → has p f ≡ b → Each P l (remove p f)
       go true h = remove-stands p l (stands p f h) H
       go false n = rw (remove-absent p f n) H
+
+-- ---- what is above a node stays where it is not moved
+each-in : (P : ℕ → List ℕ → Type 0) (l : List ℕ) (f : Forest) → ((y : ℕ) (k : List ℕ) → has y f ≡ true → P y k) → Each P l f
+each-in P l none g = tt
+each-in P l (tree y c s) g = (
+  g y l (has-top y c s),
+  each-in P (y ∷ l) c (λ z k h. g z k (has-low z y c s h)),
+  each-in P l s (λ z k h. g z k (has-late z y c s h)),
+)
+
+module _ (f : Forest) (o : Once f) where
+  abbrev Kept : ℕ → List ℕ → Type 0
+  Kept y k = has y f ≡ true → above y f ≡ k
+
+  kept : Each Kept [] f
+  kept = holds-map (Found f) (λ y c k. Kept y k) [] f (λ y c k F h. F .2) (found f o)
+
+  kept-at : (x : ℕ) (g : Forest) → Each Kept [] g → has x g ≡ true → has x f ≡ true → above x g ≡ above x f
+  kept-at x g H h k = sym (holds-at (λ y c k. Kept y k) x [] g h H k)
+
+  pub above-remove : (p x : ℕ) → has x (remove p f) ≡ true → has x f ≡ true → above x (remove p f) ≡ above x f
+  above-remove p x h = kept-at x (remove p f) (each-remove Kept p [] f kept) h
+
+  module _ (t : Forest) (apart : (y : ℕ) → has y t ≡ true → has y f ≡ false) (x : ℕ) (h : has x f ≡ true) where
+    new : (l : List ℕ) → Each Kept l t
+    new l = each-in Kept l t (λ y k g u. never u (apart y g))
+
+    pub above-cat : above x (cat f t) ≡ above x f
+    above-cat = kept-at x (cat f t) (each-cat Kept [] f t kept (new [])) (has-cat x f t ∙ either-left (has x f) (has x t) h) h
+
+    pub above-under : (p : ℕ) → has p f ≡ true → above x (under p t f) ≡ above x f
+    above-under p u =
+        kept-at x (under p t f) (each-under Kept p t [] f (λ k. new (p ∷ above p f)) kept) (has-under x p t f u ∙ either-left (has x f) (has x t) h) h

@@ -2,20 +2,44 @@
 use mathlib.Core.Path.{_≡_, refl, sym, ap, _∙_}
 use mathlib.Core.Bool.{Bool, true, false, _&&_}
 use mathlib.Core.List.{List, [], _∷_, _++_, map, map-append, append-assoc, append-nil}
-use Prim.Native.Nat.{ℕ, suc, _+_, _-_, _≤_, _<_}
+use Prim.Native.Nat.{ℕ, zero, suc, _+_, _-_, _≤_, _<_}
 use native.Mathlib.Nat.{suc-add, zero-add}
 use native.Mathlib.Omega.{arith}
 use lib.Dec.{leb, ltb}
 use lib.ListN.{length, take, drop, getD, length-append}
-use lib.Seq.{take-at, drop-at, getD-at}
+use lib.Seq.{take-at, drop-at, getD-at, getD-take, getD-drop, split-at, take-length, length-take-le}
 use Rattle.counting.specs.Times.{times}
-use Rattle.counting.proofs.Counting.{times-append}
+use Rattle.counting.proofs.Counting.{times-append, times-at}
 use Rattle.counting.proofs.Kit.{same, both, at-most, less}
 use Rattle.forest.specs.Forest.{Forest, none, tree, pre, post, dep, roots, has, count, Once, under, remove, spot, kids, above, part, children, depth}
 use Rattle.forest.specs.Table.{run, segEnd, indexOf, lastAbove, atDepth, postOf, rebased}
 use Rattle.forest.proofs.Counting.{has-count, lacks-count, count-has, count-pre, length-post}
 use Rattle.forest.proofs.Lists.{run-append, run-higher, index-here, index-past, index-within, at-yes, at-no, drop-past, Three, three-insert, three-cut, three-before, three-after, three-part, three-within, three-found}
 use Rattle.forest.proofs.Focus.{length-dep, run-deep, run-sibling, Focus, focus}
+
+-- ---- the depths are at least the roots', and at most one more for each slot
+all-append : (P : ℕ → Type 0) (xs ys : List ℕ) → ((j : ℕ) → j < length xs → P (getD xs j 0)) → ((j : ℕ) → j < length ys → P (getD ys j 0))
+    → (j : ℕ) → j < length (xs ++ ys) → P (getD (xs ++ ys) j 0)
+all-append P [] ys p q j h = q j h
+all-append P (x ∷ xs) ys p q zero h = p zero (omega arith)
+all-append P (x ∷ xs) ys p q (suc j) h = all-append P xs ys (λ i k. p (suc i) (omega arith)) q j (omega arith)
+
+dep-between : (d : ℕ) (f : Forest) (j : ℕ) → j < length (dep d f) → (d ≤ getD (dep d f) j 0) × (getD (dep d f) j 0 < d + length (pre f))
+unfolding pre dep
+dep-between d none j h = absurd (omega arith)
+dep-between d (tree x c s) zero h = (omega arith, omega arith)
+dep-between d (tree x c s) (suc j) h =
+    let l = length-append (pre c) (pre s) in
+    all-append (λ v. (d ≤ v) × (v < d + length (pre (tree x c s)))) (dep (suc d) c) (dep d s)
+    (λ i k. let I = dep-between (suc d) c i k in (omega arith, omega arith))
+    (λ i k. let I = dep-between d s i k in (omega arith, omega arith))
+    j (omega arith)
+
+pub dep-low : (d : ℕ) (f : Forest) (j : ℕ) → j < length (pre f) → d ≤ getD (dep d f) j 0
+dep-low d f j h = dep-between d f j (rw (length-dep d f) h) .0
+
+pub dep-high : (d : ℕ) (f : Forest) (j : ℕ) → j < length (pre f) → getD (dep d f) j 0 < d + length (pre f)
+dep-high d f j h = dep-between d f j (rw (length-dep d f) h) .1
 
 -- ---- a node's place, and where its segment ends
 abbrev pub place : ℕ → Forest → ℕ
@@ -44,6 +68,21 @@ missing-place p f h = go (has p f) refl
     go : (b : Bool) → has p f ≡ b → b ≡ false
     go true e = absurd (omega (arith, place-there p f e))
     go false e = refl
+
+-- ---- the slot at a place
+pub slot-has : (f : Forest) (j : ℕ) → j < length (pre f) → has (getD (pre f) j 0) f ≡ true
+slot-has f j h =
+    let x = getD (pre f) j 0 in
+    let w : times x (take (length (pre f)) (pre f)) ≡ count x f = rw (take-length (pre f)) (count-pre x f) in
+    count-has x f (omega (arith, times-at (pre f) j (length (pre f)) h (omega arith)))
+
+pub place-slot : (f : Forest) → Once f → (j : ℕ) → j < length (pre f) → place (getD (pre f) j 0) f ≡ j
+place-slot f o j h =
+    let x = getD (pre f) j 0 in
+    let w : times x (take (length (pre f)) (pre f)) ≡ count x f = rw (take-length (pre f)) (count-pre x f) in
+    let z : times x (take j (pre f)) ≡ 0 = omega (arith, times-at (pre f) j (length (pre f)) h (omega arith), o x) in
+    let l : length (take j (pre f)) ≡ j = length-take-le j (pre f) (omega arith) in
+    ap (indexOf x) (split-at (pre f) j 0 h) ∙ index-past x (take j (pre f)) (x ∷ drop (suc j) (pre f)) z ∙ rw (index-here x (drop (suc j) (pre f))) (omega arith)
 
 -- ---- over the parts of the table
 module _ (p : ℕ) (f : Forest) (F : Focus p [] f (spot p [] f)) where
@@ -79,6 +118,9 @@ module _ (p : ℕ) (f : Forest) (h : has p f ≡ true) where
   F : Focus p [] f (spot p [] f)
   F = focus p f h
 
+  pub slot-at : getD (pre f) (place p f) 0 ≡ p
+  slot-at = ap (λ (l : List ℕ). getD l (place p f) 0) (F .slots) ∙ getD-at (F .before) p (pre (kids p f) ++ F .after) 0 (place p f) (sym (place-is p f F))
+
   pub depth-at : getD (dep 1 f) (place p f) 0 ≡ depth p f
   depth-at = depth-is p f F
 
@@ -104,6 +146,15 @@ module _ (p : ℕ) (f : Forest) (h : has p f ≡ true) where
   pub segment-depths : take (end p f - place p f) (drop (place p f) (dep 1 f)) ≡ dep (depth p f) (part p f)
   unfolding dep
   segment-depths = three-part (depths-three p f F) ∙ simp append-nil
+
+  -- no place of it is higher than its own
+  pub segment-deep : (j : ℕ) → place p f ≤ j → j < end p f → depth p f ≤ getD (dep 1 f) j 0
+  segment-deep j low high =
+      let i = place p f in
+      let w : i + (j - i) ≡ j = omega arith in
+      let u : getD (dep (depth p f) (part p f)) (j - i) 0 ≡ getD (dep 1 f) j 0 =
+      rw (← segment-depths, getD-take (end p f - i) (drop i (dep 1 f)) (j - i) 0 (omega arith), getD-drop i (dep 1 f) (j - i) 0, w) in
+      rw (← u) (dep-low (depth p f) (part p f) (j - i) (omega (arith, end-at)))
 
   -- behind its own place comes what is below it, and then what is behind its segment
   pub rest-at : drop (place p f + 1) (pre f) ≡ pre (kids p f) ++ drop (end p f) (pre f)

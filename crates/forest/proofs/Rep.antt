@@ -14,7 +14,7 @@ use Rattle.forest.specs.Table.{segEnd, indexOf, lastAbove, atDepth, post
 use Rattle.forest.specs.Walk.{next, prev}
 use Rattle.forest.proofs.Lists.{middle-take}
 use Rattle.forest.proofs.Focus.{length-dep, pre-cat, dep-cat}
-use Rattle.forest.proofs.Laws.{place, end, there-place, missing-place, depth-at, end-at, end-after, end-within, segment, segment-depths, parent-at, pre-under, dep-under, pre-remove, dep-remove, within-below, below-test, rebased-dep, post-law, children-law}
+use Rattle.forest.proofs.Laws.{place, end, dep-low, dep-high, slot-has, place-slot, slot-at, depth-small, segment-deep, there-place, missing-place, depth-at, end-at, end-after, end-within, segment, segment-depths, parent-at, pre-under, dep-under, pre-remove, dep-remove, within-below, below-test, rebased-dep, post-law, children-law}
 use Rattle.forest.proofs.Shape.{shape-exact, same-forest}
 use Rattle.forest.proofs.Walk.{next-low, next-root, next-last, prev-low, prev-root}
 use Rattle.forest.proofs.Arrays.{take-insertAll, length-insertAll, take-cutOut, length-cutOut}
@@ -58,6 +58,29 @@ module _ {slots depths : List ℕ} {n : ℕ} {f : Forest} (R : Rep slots depths 
   pub rep-missing : (p i : ℕ) → i ≡ indexOf p (take n slots) → n ≤ i → has p f ≡ false
   rep-missing p i is h = missing-place p f (rw (← R .counted, ← R .order, ← is) h)
 
+  -- ---- of any place
+  slot-near : (j : ℕ) → j < n → getD slots j 0 ≡ getD (pre f) j 0
+  slot-near j h = sym (getD-take n slots j 0 h) ∙ ap (λ (l : List ℕ). getD l j 0) (R .order)
+
+  depth-near : (j : ℕ) → j < n → getD depths j 0 ≡ getD (dep 1 f) j 0
+  depth-near j h = sym (getD-take n depths j 0 h) ∙ ap (λ (l : List ℕ). getD l j 0) (R .depth)
+
+  pub rep-slot-has : (j : ℕ) → j < n → has (getD slots j 0) f ≡ true
+  rep-slot-has j h = rw (slot-near j h) (slot-has f j (omega (arith, R .counted)))
+
+  -- each slot stands at the place where it is read
+  pub rep-slot-at : Once f → (j : ℕ) → j < n → At slots n (getD slots j 0) j
+  rep-slot-at o j h =
+      record {
+        found = rw (slot-near j h, R .order) (sym (place-slot f o j (omega (arith, R .counted))));
+        inside = h;
+      }
+
+  pub rep-depth-between : (j : ℕ) → j < n → (1 ≤ getD depths j 0) × (getD depths j 0 ≤ n)
+  rep-depth-between j h =
+      let l : j < length (pre f) = omega (arith, R .counted) in
+      (rw (depth-near j h) (dep-low 1 f j l), omega (arith, depth-near j h, dep-high 1 f j l, R .counted))
+
   -- ---- of a node at the place i
   module _ {p i : ℕ} (A : At slots n p i) where
     pub rep-has : has p f ≡ true
@@ -67,7 +90,14 @@ module _ {slots depths : List ℕ} {n : ℕ} {f : Forest} (R : Rep slots depths 
     rep-place = A .found ∙ ap (indexOf p) (R .order)
 
     pub rep-depth : getD depths i 0 ≡ depth p f
-    rep-depth = sym (getD-take n depths i 0 (A .inside)) ∙ rw (R .depth, rep-place) (depth-at p f rep-has)
+    rep-depth = depth-near i (A .inside) ∙ rw rep-place (depth-at p f rep-has)
+
+    pub rep-slot : getD slots i 0 ≡ p
+    rep-slot = slot-near i (A .inside) ∙ rw rep-place (slot-at p f rep-has)
+
+    -- at most one more for each place before it
+    pub rep-depth-small : getD depths i 0 ≤ i + 1
+    rep-depth-small = omega (arith, rep-depth, rep-place, depth-small p f rep-has)
 
     pub rep-parent : (a : ℕ) → lastAbove (getD depths i 0) a (take i slots) (take i depths) ≡ getD (above p f) 0 a
     rep-parent a =
@@ -75,11 +105,8 @@ module _ {slots depths : List ℕ} {n : ℕ} {f : Forest} (R : Rep slots depths 
         rw (rep-depth, ← take-take i n slots w, ← take-take i n depths w, R .order, R .depth, rep-place) (parent-at p f rep-has a)
 
     -- ---- its neighbours in the walk, or a
-    slot-near : (j : ℕ) → j < n → getD slots j 0 ≡ getD (pre f) j 0
-    slot-near j h = sym (getD-take n slots j 0 h) ∙ ap (λ (l : List ℕ). getD l j 0) (R .order)
-
     depth-next : i + 1 < n → getD depths (i + 1) 0 ≡ getD (dep 1 f) (place p f + 1) 0
-    depth-next h = sym (getD-take n depths (i + 1) 0 h) ∙ rw (R .depth, rep-place)
+    depth-next h = depth-near (i + 1) h ∙ rw rep-place
 
     inner : i + 1 < n → place p f + 1 < length (pre f)
     inner h = omega (arith, rep-place, R .counted)
@@ -166,6 +193,11 @@ module _ {slots depths : List ℕ} {n : ℕ} {f : Forest} (R : Rep slots depths 
 
     pub rep-segment-depths : take (e - i) (drop i depths) ≡ dep (depth p f) (part p f)
     rep-segment-depths = rw (← middle-take i e n depths (omega (arith, rep-after)) rep-within, R .depth, rep-end, starts) (segment-depths p f live)
+
+    -- no place of it is higher than its own
+    pub rep-segment-deep : (j : ℕ) → i ≤ j → j < e → getD depths i 0 ≤ getD depths j 0
+    rep-segment-deep j low high =
+        rw (rep-depth (S .at), depth-near j (omega (arith, rep-within))) (segment-deep p f live j (omega (arith, starts)) (omega (arith, rep-end)))
 
     pub rep-post : postOf (take (e - i) (drop i slots)) (take (e - i) (drop i depths)) ≡ post (part p f)
     rep-post = rw (rep-segment, rep-segment-depths) (post-law (depth p f) (part p f))
