@@ -1,8 +1,12 @@
 -- A fact of every slot with what is below it and what is above it: how it is read, how it is shown, and through the changes.
-use Prim.Native.Nat.{ℕ}
+use Prim.Native.Nat.{ℕ, _≤_}
+use native.Mathlib.Omega.{arith}
+use native.Mathlib.Decide.{ℕ-discrete}
 use mathlib.Core.Path.{_≡_, refl, sym, _∙_}
 use mathlib.Core.Bool.{Bool, true, false}
 use mathlib.Core.List.{List, [], _∷_}
+use Rattle.counting.specs.Times.{times}
+use Rattle.counting.proofs.Counting.{hit, miss}
 use Rattle.forest.specs.Forest.{Forest, none, tree, cat, has, Once, under, remove, spot, kids, above, Holds}
 use Rattle.forest.proofs.Bools.{never, either-left}
 use Rattle.forest.proofs.Clauses.{has-top, has-low, has-late, Stands, here, down, right, stands, under-here, under-down, under-right, under-absent, remove-here, remove-down, remove-right, remove-absent, spot-here, spot-down, spot-right}
@@ -138,3 +142,36 @@ module _ (f : Forest) (o : Once f) where
     pub above-under : (p : ℕ) → has p f ≡ true → above x (under p t f) ≡ above x f
     above-under p u =
         kept-at x (under p t f) (each-under Kept p t [] f (λ k. new (p ∷ above p f)) kept) (has-under x p t f u ∙ either-left (has x f) (has x t) h) h
+
+-- ---- above and below: q is above p exactly where p is below q
+more-above : (q p : ℕ) (l : List ℕ) {f : Forest} → Stands p f → times q l ≤ times q (spot p l f .above)
+unfolding times
+more-above q p l (here {c = c} {s = s}) = rw (spot-here p l c s) (omega arith)
+more-above q p l (down {y = y} {c = c} {s = s} e h S) = rw (spot-down p l y c s e h) (omega (arith, more-above q p (y ∷ l) S))
+more-above q p l (right {y = y} {c = c} {s = s} e h S) = rw (spot-right p l y c s e h) (more-above q p l S)
+
+module _ (f : Forest) (o : Once f) where
+  -- what is above p: what is above it below q, then q and what is above q
+  pub above-inside : (p q : ℕ) → has q f ≡ true → has p (kids q f) ≡ true → above p f ≡ spot p (q ∷ above q f) (kids q f) .above
+  above-inside p q h g = holds-at (Found f) p (q ∷ above q f) (kids q f) g (holds-part (Found f) q [] f h (found f o) .1) .2
+
+  pub below-above : (p q : ℕ) → has q f ≡ true → has p (kids q f) ≡ true → 1 ≤ times q (above p f)
+  unfolding times
+  below-above p q h g =
+      rw (above-inside p q h g) (omega (arith, more-above q p (q ∷ above q f) (stands p (kids q f) g), hit q))
+
+  abbrev Lower : ℕ → List ℕ → Type 0
+  Lower y k = (q : ℕ) → 1 ≤ times q k → has y (kids q f) ≡ true
+
+  each-lower : (l : List ℕ) (g : Forest) → Holds (Found f) l g → ((q : ℕ) → 1 ≤ times q l → (x : ℕ) → has x g ≡ true → has x (kids q f) ≡ true) → Each Lower l g
+  unfolding times
+  each-lower l none H U = tt
+  each-lower l (tree y c s) H U = (
+    λ q n. U q n y (has-top y c s),
+    each-lower (y ∷ l) c (H .1) (λ q n x h. elim (ℕ-discrete q y) [ yes e ↦ rw (e, H .0 .1) h | no m ↦ U q (omega (arith, miss q y m)) x (has-low x y c s h) ]),
+    each-lower l s (H .2) (λ q n x h. U q n x (has-late x y c s h)),
+  )
+
+  pub above-below : (p q : ℕ) → has p f ≡ true → 1 ≤ times q (above p f) → has p (kids q f) ≡ true
+  unfolding times
+  above-below p q h n = holds-at (λ y c k. Lower y k) p [] f h (each-lower [] f (found f o) (λ q m x g. absurd (omega arith))) q n

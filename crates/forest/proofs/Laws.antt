@@ -1,5 +1,5 @@
 -- The laws of a forest's table: where a node and its segment stand, what is read there, and what the changes do to the two lists.
-use mathlib.Core.Path.{_≡_, refl, sym, ap, _∙_}
+use mathlib.Core.Path.{_≡_, refl, sym, ap, subst, _∙_}
 use mathlib.Core.Bool.{Bool, true, false, _&&_}
 use mathlib.Core.List.{List, [], _∷_, _++_, map, map-append, append-assoc, append-nil}
 use Prim.Native.Nat.{ℕ, zero, suc, _+_, _-_, _≤_, _<_}
@@ -13,7 +13,10 @@ use Rattle.counting.proofs.Counting.{times-append, times-at}
 use Rattle.counting.proofs.Kit.{same, both, at-most, less}
 use Rattle.forest.specs.Forest.{Forest, none, tree, pre, post, dep, roots, has, count, Once, under, remove, spot, kids, above, part, children, depth}
 use Rattle.forest.specs.Table.{run, segEnd, indexOf, lastAbove, atDepth, postOf, rebased}
-use Rattle.forest.proofs.Counting.{has-count, lacks-count, count-has, count-pre, length-post}
+use Rattle.forest.proofs.Bools.{never}
+use Rattle.forest.proofs.Clauses.{has-top, has-low}
+use Rattle.forest.proofs.Holds.{above-below}
+use Rattle.forest.proofs.Counting.{above-has, above-apart, has-count, lacks-count, count-has, count-pre, length-post}
 use Rattle.forest.proofs.Lists.{run-append, run-higher, index-here, index-past, index-within, at-yes, at-no, drop-past, Three, three-insert, three-cut, three-before, three-after, three-part, three-within, three-found}
 use Rattle.forest.proofs.Focus.{length-dep, run-deep, run-sibling, Focus, focus}
 
@@ -204,6 +207,17 @@ module _ (p : ℕ) (f : Forest) (h : has p f ≡ true) where
       same {P = (place p f ≤ place x f) × (place x f < end p f)} (has x (part p f)) (leb (place p f) (place x f) && ltb (place x f) (end p f))
       (below-within o x, λ b. within-below x (b .0) (b .1))
       (both (leb (place p f) (place x f)) (ltb (place x f) (end p f)) (at-most (place p f) (place x f)) (less (place x f) (end p f)))
+
+-- what is above p stands before it, and its segment holds p
+pub above-before : (f : Forest) → Once f → (p q : ℕ) → has p f ≡ true → 1 ≤ times q (above p f) → (place q f < place p f) × (place p f < end q f)
+above-before f o p q h n =
+    let g : has q f ≡ true = above-has q p f h n in
+    let w = below-within q f g o p (has-low p q (kids q f) none (above-below f o p q h n)) in
+    let d : place q f ≡ place p f → ⊥ =
+    λ e.
+    let z : q ≡ p = sym (slot-at q f g) ∙ ap (λ (i : ℕ). getD (pre f) i 0) e ∙ slot-at p f h in
+    never (has-top p (kids p f) none) (subst (λ (x : ℕ). has x (part p f) ≡ false) z (above-apart q p f o h n)) in
+    (omega arith, w .1)
 
 -- ---- a whole forest's lists: depths counted from another place, post-order, the slots at one depth
 rebased-from : (d e : ℕ) (f : Forest) (k : ℕ) → map (rebased d e) (dep (k + d) f) ≡ dep (k + e) f
