@@ -5,10 +5,11 @@ use mathlib.Core.Bool.{Bool, true, false}
 use native.Mathlib.Omega.{arith}
 use lib.Dec.{eqb}
 use borrow.Author.Tests.{eq-eqb}
+use Rattle.counting.proofs.Kit.{contra}
 use Rattle.forest.specs.Forest.{either, tally}
 
 pub never : {A : Type 0} {b : Bool} → b ≡ true → b ≡ false → A
-never p q = let z : _≡_ {A = ℕ} 0 1 = cc in absurd (omega arith)
+never p q = absurd (contra p q)
 
 pub neither : (a b : Bool) → either a b ≡ false → (a ≡ false) × (b ≡ false)
 neither true b e = never refl e

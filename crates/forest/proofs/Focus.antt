@@ -10,48 +10,12 @@ use lib.Dec.{eqb}
 use lib.ListN.{length, getD, length-append}
 use Rattle.counting.specs.Times.{one, times}
 use Rattle.counting.proofs.Counting.{miss, times-append}
-use Rattle.forest.specs.Forest.{Forest, none, tree, pre, dep, cat, has, under, remove, Spot, spot}
+use Rattle.forest.specs.Forest.{Forest, tree, pre, dep, has, under, remove, Spot, spot}
 use Rattle.forest.specs.Table.{run, lastAbove}
 use Rattle.forest.proofs.Clauses.{Stands, here, down, right, stands, under-here, under-down, under-right, remove-here, remove-down, remove-right, spot-here, spot-down, spot-right}
 use Rattle.forest.proofs.Counting.{lacks-count, count-pre}
-use Rattle.forest.proofs.Lists.{run-more, run-none, run-append, last-less, last-more, last-append}
-
--- ---- a whole forest in a table
-pub length-dep : (d : ℕ) (f : Forest) → length (dep d f) ≡ length (pre f)
-unfolding pre dep
-length-dep d none = refl
-length-dep d (tree x c s) = simp (length-append, length-dep (suc d) c, length-dep d s)
-
-pub pre-cat : (f t : Forest) → pre (cat f t) ≡ pre f ++ pre t
-unfolding pre cat
-pre-cat none t = refl
-pre-cat (tree x c s) t = simp (pre-cat s t, append-assoc)
-
-pub dep-cat : (d : ℕ) (f t : Forest) → dep d (cat f t) ≡ dep d f ++ dep d t
-unfolding dep cat
-dep-cat d none t = refl
-dep-cat d (tree x c s) t = simp (dep-cat d s t, append-assoc)
-
--- what is below a node is deeper than it; what comes behind is not
-pub run-deep : (d k : ℕ) (f : Forest) (ys : List ℕ) → d < k → run d (dep k f ++ ys) ≡ length (pre f) + run d ys
-unfolding pre dep
-run-deep d k none ys h = omega arith
-run-deep d k (tree x c s) ys h =
-    rw (run-more, append-assoc, run-deep d (suc k) c (dep k s ++ ys) (omega arith), run-deep d k s ys h, length-append) (omega arith)
-
-pub run-sibling : (d k : ℕ) (f : Forest) → k ≤ d → run d (dep k f) ≡ 0
-unfolding dep run
-run-sibling d k none h = refl
-run-sibling d k (tree x c s) h = run-none d k (dep (suc k) c ++ dep k s) h
-
-pub last-skip : (k a d : ℕ) (f : Forest) → k ≤ d → lastAbove k a (pre f) (dep d f) ≡ a
-unfolding pre dep lastAbove
-last-skip k a d none h = refl
-last-skip k a d (tree x c s) h =
-    last-more k a x d (pre c ++ pre s) (dep (suc d) c ++ dep d s) h
-    ∙ last-append k a (pre c) (dep (suc d) c) (pre s) (dep d s) (sym (length-dep (suc d) c))
-    ∙ ap (λ (b : ℕ). lastAbove k b (pre s) (dep d s)) (last-skip k a (suc d) c (omega arith))
-    ∙ last-skip k a d s h
+use Rattle.forest.proofs.Lists.{run-append, last-less, last-more, last-append}
+use Rattle.forest.proofs.Whole.{length-dep, pre-cat, dep-cat, run-sibling, last-skip}
 
 -- ---- p at the spot w in f, where l stands above the roots: what stands before and after its segment, and what the changes leave
 abbrev pub depthAt : Spot → ℕ

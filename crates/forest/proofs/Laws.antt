@@ -1,48 +1,24 @@
 -- The laws of a forest's table: where a node and its segment stand, what is read there, and what the changes do to the two lists.
 use mathlib.Core.Path.{_≡_, refl, sym, ap, subst, _∙_}
 use mathlib.Core.Bool.{Bool, true, false, _&&_}
-use mathlib.Core.List.{List, [], _∷_, _++_, map, map-append, append-assoc, append-nil}
-use Prim.Native.Nat.{ℕ, zero, suc, _+_, _-_, _≤_, _<_}
-use native.Mathlib.Nat.{suc-add, zero-add}
+use mathlib.Core.List.{List, [], _∷_, _++_, append-nil}
+use Prim.Native.Nat.{ℕ, suc, _+_, _-_, _≤_, _<_}
 use native.Mathlib.Omega.{arith}
 use lib.Dec.{leb, ltb}
 use lib.ListN.{length, take, drop, getD, length-append}
-use lib.Seq.{take-at, drop-at, getD-at, getD-take, getD-drop, split-at, take-length, length-take-le}
+use lib.Seq.{getD-at, getD-take, getD-drop, split-at, take-length, length-take-le}
 use Rattle.counting.specs.Times.{times}
 use Rattle.counting.proofs.Counting.{times-append, times-at}
 use Rattle.counting.proofs.Kit.{same, both, at-most, less}
-use Rattle.forest.specs.Forest.{Forest, none, tree, pre, post, dep, roots, has, count, Once, under, remove, spot, kids, above, part, children, depth}
-use Rattle.forest.specs.Table.{run, segEnd, indexOf, lastAbove, atDepth, postOf, rebased}
+use Rattle.forest.specs.Forest.{Forest, none, pre, post, dep, has, count, Once, under, remove, spot, kids, above, part, children, depth}
+use Rattle.forest.specs.Table.{segEnd, indexOf, lastAbove, atDepth, postOf}
 use Rattle.forest.proofs.Bools.{never}
 use Rattle.forest.proofs.Clauses.{has-top, has-low}
 use Rattle.forest.proofs.Holds.{above-below}
-use Rattle.forest.proofs.Counting.{above-has, above-apart, has-count, lacks-count, count-has, count-pre, length-post}
-use Rattle.forest.proofs.Lists.{run-append, run-higher, index-here, index-past, index-within, at-yes, at-no, drop-past, Three, three-insert, three-cut, three-before, three-after, three-part, three-within, three-found}
-use Rattle.forest.proofs.Focus.{length-dep, run-deep, run-sibling, Focus, focus}
-
--- ---- the depths are at least the roots', and at most one more for each slot
-all-append : (P : ℕ → Type 0) (xs ys : List ℕ) → ((j : ℕ) → j < length xs → P (getD xs j 0)) → ((j : ℕ) → j < length ys → P (getD ys j 0))
-    → (j : ℕ) → j < length (xs ++ ys) → P (getD (xs ++ ys) j 0)
-all-append P [] ys p q j h = q j h
-all-append P (x ∷ xs) ys p q zero h = p zero (omega arith)
-all-append P (x ∷ xs) ys p q (suc j) h = all-append P xs ys (λ i k. p (suc i) (omega arith)) q j (omega arith)
-
-dep-between : (d : ℕ) (f : Forest) (j : ℕ) → j < length (dep d f) → (d ≤ getD (dep d f) j 0) × (getD (dep d f) j 0 < d + length (pre f))
-unfolding pre dep
-dep-between d none j h = absurd (omega arith)
-dep-between d (tree x c s) zero h = (omega arith, omega arith)
-dep-between d (tree x c s) (suc j) h =
-    let l = length-append (pre c) (pre s) in
-    all-append (λ v. (d ≤ v) × (v < d + length (pre (tree x c s)))) (dep (suc d) c) (dep d s)
-    (λ i k. let I = dep-between (suc d) c i k in (omega arith, omega arith))
-    (λ i k. let I = dep-between d s i k in (omega arith, omega arith))
-    j (omega arith)
-
-pub dep-low : (d : ℕ) (f : Forest) (j : ℕ) → j < length (pre f) → d ≤ getD (dep d f) j 0
-dep-low d f j h = dep-between d f j (rw (length-dep d f) h) .0
-
-pub dep-high : (d : ℕ) (f : Forest) (j : ℕ) → j < length (pre f) → getD (dep d f) j 0 < d + length (pre f)
-dep-high d f j h = dep-between d f j (rw (length-dep d f) h) .1
+use Rattle.forest.proofs.Counting.{above-has, above-apart, has-count, lacks-count, count-has, count-pre}
+use Rattle.forest.proofs.Lists.{index-here, index-past, index-within, drop-past, Three, three-insert, three-cut, three-before, three-after, three-part, three-within, three-found}
+use Rattle.forest.proofs.Whole.{length-dep, run-deep, dep-low, post-law, children-law}
+use Rattle.forest.proofs.Focus.{Focus, focus}
 
 -- ---- a node's place, and where its segment ends
 abbrev pub place : ℕ → Forest → ℕ
@@ -218,62 +194,6 @@ above-before f o p q h n =
     let z : q ≡ p = sym (slot-at q f g) ∙ ap (λ (i : ℕ). getD (pre f) i 0) e ∙ slot-at p f h in
     never (has-top p (kids p f) none) (subst (λ (x : ℕ). has x (part p f) ≡ false) z (above-apart q p f o h n)) in
     (omega arith, w .1)
-
--- ---- a whole forest's lists: depths counted from another place, post-order, the slots at one depth
-rebased-from : (d e : ℕ) (f : Forest) (k : ℕ) → map (rebased d e) (dep (k + d) f) ≡ dep (k + e) f
-unfolding dep
-rebased-from d e none k = refl
-rebased-from d e (tree x c s) k =
-    let w : rebased d e (k + d) ≡ k + e = omega arith in
-    let u : map (rebased d e) (dep (suc (k + d)) c) ≡ dep (suc (k + e)) c = rw (← suc-add k d, ← suc-add k e) (rebased-from d e c (suc k)) in
-    rw (w, map-append (rebased d e) (dep (suc (k + d)) c) (dep (k + d) s), u, rebased-from d e s k)
-
-pub rebased-dep : (d e : ℕ) (f : Forest) → map (rebased d e) (dep d f) ≡ dep e f
-rebased-dep d e f = simp zero-add at (rebased-from d e f 0)
-
-post-append : (d : ℕ) (f : Forest) (xs ds : List ℕ) → run d ds ≡ 0 → postOf (pre f ++ xs) (dep d f ++ ds) ≡ post f ++ postOf xs ds
-unfolding pre dep post postOf
-post-append d none xs ds z = refl
-post-append d (tree x c s) xs ds z =
-    let z′ : run d (dep d s ++ ds) ≡ 0 = run-append d (dep d s) ds (run-sibling d d s (omega arith)) z in
-    let e : run d (dep (suc d) c ++ (dep d s ++ ds)) ≡ length (pre c) = run-deep d (suc d) c (dep d s ++ ds) (omega arith) ∙ rw z′ (omega arith) in
-    let u : postOf (pre c ++ (pre s ++ xs)) (dep (suc d) c ++ (dep d s ++ ds)) ≡ post c ++ (post s ++ postOf xs ds) =
-    post-append (suc d) c (pre s ++ xs) (dep d s ++ ds) (run-higher d (suc d) (dep d s ++ ds) (omega arith) z′) ∙ ap (λ (r : List ℕ). post c ++ r) (post-append d s xs ds z) in
-    rw (
-      append-assoc (pre c) (pre s) xs,
-      append-assoc (dep (suc d) c) (dep d s) ds,
-      e,
-      u,
-      take-at (post c) (post s ++ postOf xs ds) (length (pre c)) (length-post c),
-      drop-at (post c) (post s ++ postOf xs ds) (length (pre c)) (length-post c),
-      append-assoc (post c) (x ∷ post s) (postOf xs ds),
-    )
-
-pub post-law : (d : ℕ) (f : Forest) → postOf (pre f) (dep d f) ≡ post f
-unfolding run postOf
-post-law d f = simp append-nil at (post-append d f [] [] refl)
-
--- none where the roots are deeper
-at-deep : (k d : ℕ) (f : Forest) (xs ds : List ℕ) → k < d → atDepth k (pre f ++ xs) (dep d f ++ ds) ≡ atDepth k xs ds
-unfolding pre dep
-at-deep k d none xs ds h = refl
-at-deep k d (tree x c s) xs ds h =
-    at-no k x d (pre c ++ pre s ++ xs) (dep (suc d) c ++ dep d s ++ ds) (λ e. omega arith)
-    ∙ rw (append-assoc (pre c) (pre s) xs, append-assoc (dep (suc d) c) (dep d s) ds) (at-deep k (suc d) c (pre s ++ xs) (dep d s ++ ds) (omega arith) ∙ at-deep k d s xs ds h)
-
-pub roots-law : (d : ℕ) (f : Forest) → atDepth d (pre f) (dep d f) ≡ roots f
-unfolding pre dep roots atDepth
-roots-law d none = refl
-roots-law d (tree x c s) =
-    at-yes d x d (pre c ++ pre s) (dep (suc d) c ++ dep d s) refl
-    ∙ ap (λ (r : List ℕ). x ∷ r) (at-deep d (suc d) c (pre s) (dep d s) (omega arith) ∙ roots-law d s)
-
--- a node's children lie one deeper
-pub children-law : (d p : ℕ) (f : Forest) → atDepth (suc d) (pre (part p f)) (dep d (part p f)) ≡ children p f
-unfolding pre dep
-children-law d p f =
-    rw (append-nil (pre (kids p f)), append-nil (dep (suc d) (kids p f)))
-    (at-no (suc d) p d (pre (kids p f)) (dep (suc d) (kids p f)) (λ e. omega arith) ∙ roots-law (suc d) (kids p f))
 
 -- ---- read from a node's segment
 module _ (p : ℕ) (f : Forest) (h : has p f ≡ true) where

@@ -3,6 +3,7 @@ pub mod Clauses
 pub mod Counting
 pub mod Holds
 pub mod Lists
+pub mod Whole
 pub mod Focus
 pub mod Laws
 pub mod Shape

@@ -51,15 +51,15 @@ pub index-there : (x y : ℕ) (ys : List ℕ) → (y ≡ x → ⊥) → indexOf 
 unfolding indexOf
 index-there x y ys n = rw (indexOf, ne-eqb y x n)
 
+-- x is not in the list
+pub not-there : (x y : ℕ) (ys : List ℕ) → times x (y ∷ ys) ≡ 0 → (y ≡ x → ⊥) × (times x ys ≡ 0)
+unfolding times
+not-there x y ys z = (λ e. let k : one (eqb x y) ≡ 1 = rw e (hit x) in omega arith, omega arith)
+
 -- x is not in the first list, or it is
 pub index-past : (x : ℕ) (xs ys : List ℕ) → times x xs ≡ 0 → indexOf x (xs ++ ys) ≡ length xs + indexOf x ys
-unfolding times
 index-past x [] ys z = omega arith
-index-past x (y ∷ xs) ys z =
-    elim (ℕ-discrete y x) [
-      | yes e ↦ let k : one (eqb x y) ≡ 1 = rw e (hit x) in absurd (omega arith)
-      | no n ↦ rw (index-there x y (xs ++ ys) n, index-past x xs ys (omega arith)) (omega arith)
-    ]
+index-past x (y ∷ xs) ys z = let n = not-there x y xs z in rw (index-there x y (xs ++ ys) (n .0), index-past x xs ys (n .1)) (omega arith)
 
 pub index-within : (x : ℕ) (xs ys : List ℕ) → 1 ≤ times x xs → indexOf x (xs ++ ys) < length xs
 unfolding times

@@ -13,8 +13,8 @@ use Rattle.forest.specs.Forest.{Forest, none, leaf, pre, post, dep, has,
 use Rattle.forest.specs.Table.{segEnd, indexOf, lastAbove, atDepth, postOf, rebased, depthsFrom, insertAll, cutOut}
 use Rattle.forest.specs.Walk.{next, prev}
 use Rattle.forest.proofs.Lists.{middle-take}
-use Rattle.forest.proofs.Focus.{length-dep, pre-cat, dep-cat}
-use Rattle.forest.proofs.Laws.{place, end, dep-low, dep-high, slot-has, place-slot, slot-at, depth-small, segment-deep, there-place, missing-place, depth-at, end-at, end-after, end-within, segment, segment-depths, parent-at, pre-under, dep-under, pre-remove, dep-remove, within-below, below-test, rebased-dep, post-law, children-law}
+use Rattle.forest.proofs.Whole.{length-dep, pre-cat, dep-cat, dep-low, dep-high, rebased-dep, post-law, children-law}
+use Rattle.forest.proofs.Laws.{place, end, slot-has, place-slot, slot-at, depth-small, segment-deep, there-place, missing-place, depth-at, end-at, end-after, end-within, segment, segment-depths, parent-at, pre-under, dep-under, pre-remove, dep-remove, within-below, below-test}
 use Rattle.forest.proofs.Shape.{shape-exact, same-forest}
 use Rattle.forest.proofs.Walk.{next-low, next-root, next-last, prev-low, prev-root}
 use Rattle.forest.proofs.Arrays.{take-insertAll, length-insertAll, take-cutOut, length-cutOut}

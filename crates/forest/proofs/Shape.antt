@@ -13,7 +13,7 @@ use Rattle.forest.specs.Forest.{Forest, none, tree, pre, dep}
 use Rattle.forest.specs.Table.{run, depthsFrom}
 use Rattle.forest.proofs.Bools.{never}
 use Rattle.forest.proofs.Lists.{run-more, run-append, run-higher}
-use Rattle.forest.proofs.Focus.{run-sibling}
+use Rattle.forest.proofs.Whole.{run-sibling}
 
 -- ---- the test's clause, both ways
 record Next (b d : ℕ) (ds : List ℕ) : Type 0 where

@@ -4,35 +4,26 @@ use mathlib.Core.Bool.{true, false}
 use mathlib.Core.List.{List, [], _∷_, _++_, append-assoc, append-nil}
 use Prim.Native.Nat.{ℕ, suc, _+_, _-_, _≤_, _<_}
 use native.Mathlib.Omega.{arith}
-use native.Mathlib.Decide.{ℕ-discrete}
 use borrow.Author.Tests.{ne-eqb}
 use lib.Dec.{eqb}
 use lib.ListN.{length, take, drop, getD, length-append, drop-of-length-le}
 use lib.Seq.{append-snoc, getD-at, getD-take, drop-cons, length-take-le}
-use Rattle.counting.specs.Times.{one, times}
+use Rattle.counting.specs.Times.{times}
 use Rattle.counting.proofs.Counting.{hit, times-append}
 use Rattle.forest.specs.Forest.{Forest, none, tree, pre, dep, roots, has, Once, kids, above, children, part, depth, Holds}
 use Rattle.forest.specs.Walk.{behind, nextUp, next, lastIn, ahead, prevUp, prev}
 use Rattle.forest.proofs.Bools.{same-slot}
 use Rattle.forest.proofs.Counting.{count-pre}
 use Rattle.forest.proofs.Holds.{Found, found, Each, holds-at}
-use Rattle.forest.proofs.Lists.{index-here, index-past, Three, three-before, three-after}
-use Rattle.forest.proofs.Focus.{length-dep}
+use Rattle.forest.proofs.Lists.{not-there, index-here, index-past, Three, three-before, three-after}
+use Rattle.forest.proofs.Whole.{length-dep}
 use Rattle.forest.proofs.Laws.{place, end, end-at, rest-at, rest-depths-at, place-there}
 
 -- ---- lists of siblings
-other-slot : (x y : ℕ) (ys : List ℕ) → times x (y ∷ ys) ≡ 0 → (eqb y x ≡ false) × (times x ys ≡ 0)
-unfolding times
-other-slot x y ys z =
-    elim (ℕ-discrete y x) [
-      | yes e ↦ let k : one (eqb x y) ≡ 1 = rw e (hit x) in absurd (omega arith)
-      | no n ↦ (ne-eqb y x n, omega arith)
-    ]
-
 behind-past : (a x : ℕ) (ps ys : List ℕ) → times x ps ≡ 0 → behind a x (ps ++ (x ∷ ys)) ≡ getD ys 0 a
 unfolding behind
 behind-past a x [] ys z = rw (behind, same-slot x)
-behind-past a x (p ∷ ps) ys z = let o = other-slot x p ps z in rw (behind, o .0) (behind-past a x ps ys (o .1))
+behind-past a x (p ∷ ps) ys z = let n = not-there x p ps z in rw (behind, ne-eqb p x (n .0)) (behind-past a x ps ys (n .1))
 
 -- what stands before the siblings that come behind ps
 abbrev pick : Forest → ℕ → List ℕ → ℕ
@@ -46,7 +37,7 @@ pick-snoc f q (p ∷ ps) y = pick-snoc f (lastIn p (kids p f)) ps y
 ahead-past : (f : Forest) (q x : ℕ) (ps ys : List ℕ) → times x ps ≡ 0 → ahead f q x (ps ++ (x ∷ ys)) ≡ pick f q ps
 unfolding ahead
 ahead-past f q x [] ys z = rw (ahead, same-slot x)
-ahead-past f q x (p ∷ ps) ys z = let o = other-slot x p ps z in rw (ahead, o .0) (ahead-past f (lastIn p (kids p f)) x ps ys (o .1))
+ahead-past f q x (p ∷ ps) ys z = let n = not-there x p ps z in rw (ahead, ne-eqb p x (n .0)) (ahead-past f (lastIn p (kids p f)) x ps ys (n .1))
 
 -- the first of a table's rest, unless it is a root
 abbrev firstLow : ℕ → List ℕ → List ℕ → ℕ
@@ -56,6 +47,10 @@ firstLow a (x ∷ xs) (d ∷ ds) = elim (eqb d 1) [ true ↦ a | false ↦ x ]
 
 first-low : (a x d : ℕ) (xs ds : List ℕ) → (d ≡ 1 → ⊥) → firstLow a (x ∷ xs) (d ∷ ds) ≡ x
 first-low a x d xs ds n = rw (firstLow, ne-eqb d 1 n)
+
+first-tree : (a k y : ℕ) (c s : Forest) (xs ds : List ℕ) → (k ≡ 1 → ⊥) → firstLow a (pre (tree y c s) ++ xs) (dep k (tree y c s) ++ ds) ≡ y
+unfolding pre dep
+first-tree a k y c s xs ds n = first-low a y k ((pre c ++ pre s) ++ xs) ((dep (suc k) c ++ dep k s) ++ ds) n
 
 -- m is the last of a list
 abbrev Last : List ℕ → ℕ → Type 0
@@ -162,7 +157,7 @@ module _ (f : Forest) where
     next-beside [] y (tree x c s) ps r dr K z U = refl
     next-beside (q ∷ qs) y none ps r dr K z U = rw K (behind-past (nextUp a f q qs) y ps [] z) ∙ U
     next-beside (q ∷ qs) y (tree x c s) ps r dr K z U =
-        rw K (behind-past (nextUp a f q qs) y ps (x ∷ roots s) z) ∙ sym (first-low a x (suc (length (q ∷ qs))) ((pre c ++ pre s) ++ r) ((dep (suc (suc (length (q ∷ qs)))) c ++ dep (suc (length (q ∷ qs))) s) ++ dr) (λ e. omega arith))
+        rw K (behind-past (nextUp a f q qs) y ps (x ∷ roots s) z) ∙ sym (first-tree a (suc (length (q ∷ qs))) x c s r dr (λ e. omega arith))
 
     abbrev Next : ℕ → List ℕ → Type 0
     Next y l = nextUp a f y l ≡ firstLow a (drop (end y f) (pre f)) (drop (end y f) (dep 1 f))
@@ -220,8 +215,7 @@ module _ (f : Forest) where
       where
         go : (k : Forest) → getD (roots k) 0 (nextUp a f x (above x f)) ≡ firstLow a (pre k ++ drop (end x f) (pre f)) (dep (suc (depth x f)) k ++ drop (end x f) (dep 1 f))
         go none = next-up
-        go (tree y c s) =
-            sym (first-low a y (suc (depth x f)) ((pre c ++ pre s) ++ drop (end x f) (pre f)) ((dep (suc (suc (depth x f))) c ++ dep (suc (depth x f)) s) ++ drop (end x f) (dep 1 f)) (λ e. omega arith))
+        go (tree y c s) = sym (first-tree a (suc (depth x f)) y c s (drop (end x f) (pre f)) (drop (end x f) (dep 1 f)) (λ e. omega arith))
 
     -- it stands behind x in the table
     pub next-low : place x f + 1 < length (pre f) → (getD (dep 1 f) (place x f + 1) 0 ≡ 1 → ⊥) → next a f x ≡ getD (pre f) (place x f + 1) 0

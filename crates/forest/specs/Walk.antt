@@ -21,7 +21,7 @@ nextUp a f x (q ∷ qs) = behind (nextUp a f q qs) x (children q f)
 abbrev pub next : ℕ → Forest → ℕ → ℕ
 next a f x = getD (children x f) 0 (nextUp a f x (above x f))
 
--- down the last children of a, where c is what is below a
+-- down the last children from a, where the forest is what is below a
 unfoldable pub lastIn : ℕ → Forest → ℕ
 lastIn a none = a
 lastIn a (tree y c s) = lastIn (lastIn y c) s
