@@ -30,5 +30,9 @@ pub no-tally : (b : Bool) → tally b ≤ 0 → b ≡ false
 no-tally true h = absurd (omega arith)
 no-tally false h = refl
 
+pub tally-small : (b : Bool) → tally b ≤ 1
+tally-small true = omega arith
+tally-small false = omega arith
+
 pub same-slot : (x : ℕ) → eqb x x ≡ true
 same-slot x = eq-eqb x x refl

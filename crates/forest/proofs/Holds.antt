@@ -2,12 +2,12 @@
 use Prim.Native.Nat.{ℕ, _≤_}
 use native.Mathlib.Omega.{arith}
 use native.Mathlib.Decide.{ℕ-discrete}
-use mathlib.Core.Path.{_≡_, refl, sym, _∙_}
+use mathlib.Core.Path.{_≡_, refl, sym, ap, _∙_}
 use mathlib.Core.Bool.{Bool, true, false}
 use mathlib.Core.List.{List, [], _∷_}
 use Rattle.counting.specs.Times.{times}
 use Rattle.counting.proofs.Counting.{hit, miss}
-use Rattle.forest.specs.Forest.{Forest, none, tree, cat, has, Once, under, remove, spot, kids, above, Holds}
+use Rattle.forest.specs.Forest.{Forest, none, tree, cat, has, Once, under, remove, Spot, spot, kids, above, Holds}
 use Rattle.forest.proofs.Bools.{never, either-left}
 use Rattle.forest.proofs.Clauses.{has-top, has-low, has-late, Stands, here, down, right, stands, under-here, under-down, under-right, under-absent, remove-here, remove-down, remove-right, remove-absent, spot-here, spot-down, spot-right}
 use Rattle.forest.proofs.Counting.{once-below, once-beside, not-below, not-beside, beside-not-below, has-cat, has-under}
@@ -142,6 +142,18 @@ module _ (f : Forest) (o : Once f) where
     pub above-under : (p : ℕ) → has p f ≡ true → above x (under p t f) ≡ above x f
     above-under p u =
         kept-at x (under p t f) (each-under Kept p t [] f (λ k. new (p ∷ above p f)) kept) (has-under x p t f u ∙ either-left (has x f) (has x t) h) h
+
+-- ---- p's own spot when trees are put under it: they are its last children
+spot-stands : (p : ℕ) (l : List ℕ) (t : Forest) {f : Forest} → Stands p f → spot p l (under p t f) ≡ record { kids = cat (spot p l f .kids) t; above = spot p l f .above }
+spot-stands p l t (here {c = c} {s = s}) = rw (under-here p t c s, spot-here p l (cat c t) s, spot-here p l c s)
+spot-stands p l t (down {y = y} {c = c} {s = s} e h S) =
+    let g : has p (under p t c) ≡ true = has-under p p t c h ∙ either-left (has p c) (has p t) h in
+    rw (under-down p t y c s e h, spot-down p l y (under p t c) s e g, spot-down p l y c s e h) (spot-stands p (y ∷ l) t S)
+spot-stands p l t (right {y = y} {c = c} {s = s} e h S) =
+    rw (under-right p t y c s e h, spot-right p l y c (under p t s) e h, spot-right p l y c s e h) (spot-stands p l t S)
+
+pub kids-under : (p : ℕ) (t f : Forest) → has p f ≡ true → kids p (under p t f) ≡ cat (kids p f) t
+kids-under p t f h = ap (λ (w : Spot). w .kids) (spot-stands p [] t (stands p f h))
 
 -- ---- above and below: q is above p exactly where p is below q
 more-above : (q p : ℕ) (l : List ℕ) {f : Forest} → Stands p f → times q l ≤ times q (spot p l f .above)

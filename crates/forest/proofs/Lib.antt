@@ -10,4 +10,5 @@ pub mod Shape
 pub mod Walk
 pub mod Arrays
 pub mod Rep
+pub mod Sound
 mod Examples

@@ -8,10 +8,12 @@ use native.Mathlib.Omega.{arith}
 use lib.Dec.{leb, ltb}
 use lib.ListN.{length, take, drop, getD, drop-of-length-le}
 use lib.Seq.{take-take, take-all, getD-take, length-take-le}
+use Rattle.counting.specs.Times.{times}
 use Rattle.counting.specs.Lists.{Tells}
-use Rattle.forest.specs.Forest.{Forest, none, leaf, pre, post, dep, has, Once, cat, under, remove, above, part, children, depth}
+use Rattle.forest.specs.Forest.{Forest, none, leaf, pre, post, dep, has, count, Once, cat, under, remove, above, part, children, depth}
 use Rattle.forest.specs.Table.{segEnd, indexOf, lastAbove, atDepth, postOf, rebased, depthsFrom, insertAll, cutOut}
 use Rattle.forest.specs.Walk.{next, prev}
+use Rattle.forest.proofs.Counting.{count-pre}
 use Rattle.forest.proofs.Lists.{middle-take}
 use Rattle.forest.proofs.Whole.{length-dep, pre-cat, dep-cat, dep-low, dep-high, rebased-dep, post-law, children-law}
 use Rattle.forest.proofs.Laws.{place, end, slot-has, place-slot, slot-at, depth-small, segment-deep, there-place, missing-place, depth-at, end-at, end-after, end-within, segment, segment-depths, parent-at, pre-under, dep-under, pre-remove, dep-remove, within-below, below-test}
@@ -55,6 +57,9 @@ unfolding pre dep
 rep-empty slots depths size dsize = record { counted = refl; order = refl; depth = refl; small = omega arith; sizes = (size, dsize) }
 
 module _ {slots depths : List ℕ} {n : ℕ} {f : Forest} (R : Rep slots depths n f) where
+  pub rep-times : (x : ℕ) → times x (take n slots) ≡ count x f
+  rep-times x = ap (times x) (R .order) ∙ count-pre x f
+
   pub rep-missing : (p i : ℕ) → i ≡ indexOf p (take n slots) → n ≤ i → has p f ≡ false
   rep-missing p i is h = missing-place p f (rw (← R .counted, ← R .order, ← is) h)
 
