@@ -4,12 +4,12 @@ use mathlib.Core.Bool.{Bool, true, false, _&&_, and-eq-true-iff}
 use mathlib.Core.List.{List, [], _∷_, _++_, map, map-append, append-assoc, append-nil}
 use Prim.Native.Nat.{ℕ, zero, suc, _+_, _-_, _≤_, _<_}
 use native.Mathlib.Numerals.{add-one}
-use native.Mathlib.Nat.{add-suc, suc-add, add-zero, le-of-suc-le-suc, not-suc-le-zero, suc-sub-suc, sub-zero}
+use native.Mathlib.Nat.{le-of-suc-le-suc, not-suc-le-zero, suc-sub-suc, sub-zero}
 use native.Mathlib.Omega.{arith}
 use borrow.Author.Tests.{lt-ltb, le-ltb, eq-eqb, ne-eqb, le-leb, lt-leb, leb-true}
-use lib.Dec.{ltb, leb, eqb}
-use lib.ListN.{length, take, drop, getD, set, length-take, length-append, length-drop, length-map, length-set, drop-of-length-le, take-append-drop}
-use lib.Seq.{slice-cons, slice-empty, paste, paste-zero, paste-suc, length-paste, take-paste, drop-paste, drop-append-le, drop-append-add, take-suc, getD-drop, getD-at, set-at, set-split, take-nil, take-append-add, take-suc-set, drop-set-lt, drop-cons, drop-drop, take-at, drop-at, take-append-le, length-take-le, append-snoc, take-take, getD-take}
+use lib.Dec.{ltb, leb}
+use lib.ListN.{length, take, drop, getD, set, length-append, length-drop, length-map, drop-of-length-le, take-append-drop}
+use lib.Seq.{slice-cons, slice-empty, paste, paste-zero, paste-suc, take-paste, drop-paste, drop-append-le, drop-append-add, take-suc, getD-drop, getD-at, set-at, set-split, take-nil, take-append-add, take-suc-set, drop-set-lt, drop-cons, drop-drop, take-at, take-append-le, length-take-le, getD-take}
 use Rattle.forest.specs.Table.{run, segEnd, indexOf, lastAbove, atDepth, postOf, rebased, depthsFrom, insertAll, cutOut}
 use Rattle.links.specs.Links.{part, inFront, shifted}
 
@@ -157,11 +157,11 @@ module _ (b n i : ℕ) (ds : List ℕ) (fits : n ≤ length ds) (h : i < n) wher
   pub shape-zero : getD ds i 0 < 1 → depthsFrom b (drop i (take n ds)) ≡ false
   shape-zero k = open-shape ∙ shape-cons b (getD ds i 0) (drop (i + 1) (take n ds)) false (leb (getD ds i 0) (suc b)) (lt-leb 1 (getD ds i 0) k) refl
 
-  pub shape-jump : 1 ≤ getD ds i 0 → b < getD ds i 0 - 1 → depthsFrom b (drop i (take n ds)) ≡ false
+  pub shape-jump : 1 ≤ getD ds i 0 → b + 1 < getD ds i 0 → depthsFrom b (drop i (take n ds)) ≡ false
   shape-jump k j =
       open-shape ∙ shape-cons b (getD ds i 0) (drop (i + 1) (take n ds)) true false (le-leb 1 (getD ds i 0) k) (lt-leb (getD ds i 0) (suc b) (omega arith))
 
-  pub shape-on : 1 ≤ getD ds i 0 → getD ds i 0 - 1 ≤ b → depthsFrom b (drop i (take n ds)) ≡ depthsFrom (getD ds i 0) (drop (i + 1) (take n ds))
+  pub shape-on : 1 ≤ getD ds i 0 → getD ds i 0 ≤ b + 1 → depthsFrom b (drop i (take n ds)) ≡ depthsFrom (getD ds i 0) (drop (i + 1) (take n ds))
   shape-on k j =
       open-shape ∙ shape-cons b (getD ds i 0) (drop (i + 1) (take n ds)) true true (le-leb 1 (getD ds i 0) k) (le-leb (getD ds i 0) (suc b) (omega arith))
 

@@ -102,7 +102,7 @@ pub fn depths_ok(depth: &[u32; 256], n: usize) -> bool
         if d < 1 {
             return false;
         }
-        if b < d - 1 {
+        if b + 1 < d {
             return false;
         }
         b = d;
@@ -175,7 +175,7 @@ fn rebase(v: u32, was: u32, is: u32) -> u32
 
 // Inner: the depths of the places from `from` up to `to`, below a node that lay at `was` and lies at `is` now.
 pub fn shift(a: &mut [u32; 256], from: usize, to: usize, was: u32, is: u32)
-    requires { ⌜ (from ≤ to) × (to ≤ 256) × (is ≤ 257) × (length (now a) ≡ 256) × ((j : ℕ) → j < to → getD (now a) j 0 ≤ 256) ⌝ }
+    requires { ⌜ (from ≤ to) × (to ≤ 256) × (length (now a) ≡ 256) × ((j : ℕ) → from ≤ j → j < to → getD (now a) j 0 + is < 4294967296) ⌝ }
     ensures { λ _. ⌜ (length (now (a .exit)) ≡ 256) × (now (a .exit) ≡ spec.shifted from to was is (now (a .entry))) ⌝ }
 {
     let mut i = from;
@@ -197,13 +197,13 @@ pub fn post_order<'a>(
     requires { ⌜ (at ≤ e) × (e ≤ 256) × (length (now order) ≡ 256) × (length (now depth) ≡ 256) × (length (now out) ≡ 256) ⌝ }
     ensures { λ _. ⌜ (length (now (out .exit)) ≡ 256) × (now (out .exit) ≡ spec.inFront (postOf (spec.part at e (now (order .entry))) (spec.part at e (now (depth .entry)))) (now (out .entry))) ⌝ }
 {
-    let mut i = e;
-    while at < i {
-        let m = e - i;
-        i -= 1;
-        let x = order[i];
-        let s = segment_end(depth, e, i);
-        insert_at(out, m, s - i - 1, x);
+    let mut j = e;
+    while at < j {
+        let m = e - j;
+        j -= 1;
+        let x = order[j];
+        let s = segment_end(depth, e, j);
+        insert_at(out, m, s - j - 1, x);
     }
 }
 

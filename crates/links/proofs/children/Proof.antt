@@ -1,17 +1,15 @@
-use mathlib.Core.Path.{_≡_, refl, sym, ap, _∙_}
+use Prim.Native.Nat.{_-_, _≤_, _<_}
+use mathlib.Core.Path.{_≡_, refl}
 use mathlib.Core.Logic.{⊎-elim}
 use mathlib.Core.List.{_++_}
-use lib.ListN.{length, take, drop, getD, length-set}
+use native.Mathlib.Omega.{arith}
+use lib.ListN.{length, take, drop, length-set}
+use borrow.Author.Needs.{needs}
 use Rattle.forest.specs.Table.{atDepth}
 use Rattle.links.specs.Links.{part}
 use Rattle.links.proofs.Steps.{level-put, level-pass, level-rest, level-end}
-use Prim.Native.Nat.{ℕ, _+_, _-_, _≤_, _<_}
-use native.Mathlib.Omega.{arith}
-use borrow.Author.Needs.{needs}
 use Rattle.links.proofs.children.Statement.{statement}
 use Rattle.links.proofs.children.Tie as tie
-use Rattle.links.proofs.children.Reads as reads
-use Rattle.links.proofs.children.Lts as lts
 
 abbrev Inv-loop : tie.InvT-loop
 Inv-loop order depth from e k out₀ m₀ i₀ out m i = (from ≤ i) × (i ≤ e) × (m ≤ i - from) × (length out ≡ 256) × (take m out ++ atDepth k (part i e order) (part i e depth) ≡ atDepth k (part from e order) (part from e depth)) × (drop m out ≡ drop m out₀)
@@ -19,49 +17,39 @@ Inv-loop order depth from e k out₀ m₀ i₀ out m i = (from ≤ i) × (i ≤ 
 abbrev μ-loop : tie.MeasureT-loop
 μ-loop order depth from e k out₀ m₀ i₀ out m i = e - i
 
--- src/lib.rt:76:5
 loop-holds : tie.Need-loop-holds Inv-loop μ-loop
 loop-holds c = (omega arith, omega arith, omega arith, search needs, refl, refl)
 
--- src/lib.rt:77:12
 mul-if1 : tie.Need-mul-if1 Inv-loop μ-loop
 mul-if1 c = search needs
 
--- src/lib.rt:77:12
 element-copy-out-if1 : tie.Need-element-copy-out-if1 Inv-loop μ-loop
 element-copy-out-if1 c = search needs
 
--- src/lib.rt:78:22
 mul-out : tie.Need-mul-out Inv-loop μ-loop
 mul-out c = search needs
 
--- src/lib.rt:78:22
 element-copy-out-out : tie.Need-element-copy-out-out Inv-loop μ-loop
 element-copy-out-out c = search needs
 
--- src/lib.rt:78:13
 mul-out-2 : tie.Need-mul-out-2 Inv-loop μ-loop
 mul-out-2 c = search needs
 
--- src/lib.rt:78:13
 element-write-out : tie.Need-element-write-out Inv-loop μ-loop
 element-write-out c = search needs
 
--- src/lib.rt:79:13
 add-m : tie.Need-add-m Inv-loop μ-loop
 add-m c = search needs
 
--- src/lib.rt:81:9
 add-i : tie.Need-add-i Inv-loop μ-loop
 add-i c = search needs
 
--- src/lib.rt:76:5
 loop-less : tie.Need-loop-less Inv-loop μ-loop
 loop-less c = search needs
 
--- src/lib.rt:76:5
 loop-again : tie.Need-loop-again Inv-loop μ-loop
-loop-again c = let L = c .before .before .before .loop in
+loop-again c =
+    let L = c .before .before .before .loop in
     let A = c .before .before .before .before .args in
     let X = A .order .now in
     let D = A .depth .now in
@@ -87,9 +75,9 @@ loop-again c = let L = c .before .before .before .loop in
     ))
     (c .if1 .came)
 
--- src/lib.rt:69:1
 returns : tie.Need-returns Inv-loop μ-loop
-returns c = let L = c .before .loop in
+returns c =
+    let L = c .before .loop in
     let A = c .before .before .args in
     let z : L .i ≡ A .e = omega arith in
     let all = atDepth (A .k) (part (A .from) (A .e) (A .order .now)) (part (A .from) (A .e) (A .depth .now)) in

@@ -1,15 +1,13 @@
-use mathlib.Core.Path.{_≡_, refl, sym, ap, _∙_}
+use Prim.Native.Nat.{ℕ, _+_, _-_, _≤_}
+use mathlib.Core.Path.{_≡_, ap, _∙_}
 use mathlib.Core.List.{List}
+use native.Mathlib.Omega.{arith}
 use lib.ListN.{length, drop, getD, set}
 use lib.Seq.{paste, paste-zero}
-use Rattle.links.proofs.Steps.{copy-on}
-use Prim.Native.Nat.{ℕ, _+_, _-_, _≤_, _<_}
-use native.Mathlib.Omega.{arith}
 use borrow.Author.Needs.{needs}
+use Rattle.links.proofs.Steps.{copy-on}
 use Rattle.links.proofs.copy_over.Statement.{statement}
 use Rattle.links.proofs.copy_over.Tie as tie
-use Rattle.links.proofs.copy_over.Reads as reads
-use Rattle.links.proofs.copy_over.Lts as lts
 
 abbrev Inv-loop : tie.InvT-loop
 Inv-loop a₀ at s from k j₀ a j = (j ≤ k) × (length a ≡ 256) × (a ≡ paste a₀ at (drop from s) j)
@@ -17,45 +15,36 @@ Inv-loop a₀ at s from k j₀ a j = (j ≤ k) × (length a ≡ 256) × (a ≡ p
 abbrev μ-loop : tie.MeasureT-loop
 μ-loop a₀ at s from k j₀ a j = k - j
 
--- src/lib.rt:131:5
 loop-holds : tie.Need-loop-holds Inv-loop μ-loop
 loop-holds c = (search needs, c .pre .2, paste-zero (c .args .a .now) (c .args .at) (drop (c .args .from) (c .args .s .now)))
 
--- src/lib.rt:132:23
 add-a : tie.Need-add-a Inv-loop μ-loop
 add-a c = search needs
 
--- src/lib.rt:132:21
 mul-a : tie.Need-mul-a Inv-loop μ-loop
 mul-a c = search needs
 
--- src/lib.rt:132:21
 element-copy-out-a : tie.Need-element-copy-out-a Inv-loop μ-loop
 element-copy-out-a c = search needs
 
--- src/lib.rt:132:11
 add-a-2 : tie.Need-add-a-2 Inv-loop μ-loop
 add-a-2 c = search needs
 
--- src/lib.rt:132:9
 mul-a-2 : tie.Need-mul-a-2 Inv-loop μ-loop
 mul-a-2 c = search needs
 
--- src/lib.rt:132:9
 element-write-a : tie.Need-element-write-a Inv-loop μ-loop
 element-write-a c = search needs
 
--- src/lib.rt:133:9
 add-j : tie.Need-add-j Inv-loop μ-loop
 add-j c = search needs
 
--- src/lib.rt:131:5
 loop-less : tie.Need-loop-less Inv-loop μ-loop
 loop-less c = search needs
 
--- src/lib.rt:131:5
 loop-again : tie.Need-loop-again Inv-loop μ-loop
-loop-again c = let L = c .before .before .loop in
+loop-again c =
+    let L = c .before .before .loop in
     let A = c .before .before .before .args in
     let P = c .before .before .before .pre in (
       omega arith,
@@ -64,9 +53,9 @@ loop-again c = let L = c .before .before .loop in
           ∙ copy-on (A .a .now) (A .at) (A .s .now) (A .from) (L .j) (omega (arith, P .2)) (omega (arith, P .3)),
     )
 
--- src/lib.rt:126:1
 returns : tie.Need-returns Inv-loop μ-loop
-returns c = let L = c .before .loop in
+returns c =
+    let L = c .before .loop in
     let e : L .j ≡ c .before .before .args .k = omega arith in
     (L .inv .1, rw e at (L .inv .2))
 

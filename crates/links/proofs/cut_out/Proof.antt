@@ -1,15 +1,12 @@
+use Prim.Native.Nat.{_+_, _-_, _≤_}
+use mathlib.Core.Path.{_≡_, _∙_}
+use native.Mathlib.Omega.{arith}
 use lib.ListN.{length, drop}
 use lib.Seq.{paste}
-use Rattle.links.proofs.Steps.{close-turn, close-none, close-end}
-use mathlib.Core.Path.{_≡_, refl, sym, ap, _∙_}
-use mathlib.Core.List.{List}
-use Prim.Native.Nat.{ℕ, _+_, _-_, _≤_, _<_}
-use native.Mathlib.Omega.{arith}
 use borrow.Author.Needs.{needs}
+use Rattle.links.proofs.Steps.{close-turn, close-none, close-end}
 use Rattle.links.proofs.cut_out.Statement.{statement}
 use Rattle.links.proofs.cut_out.Tie as tie
-use Rattle.links.proofs.cut_out.Reads as reads
-use Rattle.links.proofs.cut_out.Lts as lts
 
 abbrev Inv-loop : tie.InvT-loop
 Inv-loop a₀ n i j to₀ from₀ a to from = (j ≤ from) × (from ≤ n) × (n ≤ 256) × (to ≡ i + (from - j)) × (i ≤ j) × (length a ≡ 256) × (a ≡ paste a₀ i (drop j a₀) (from - j))
@@ -17,41 +14,33 @@ Inv-loop a₀ n i j to₀ from₀ a to from = (j ≤ from) × (from ≤ n) × (n
 abbrev μ-loop : tie.MeasureT-loop
 μ-loop a₀ n i j to₀ from₀ a to from = n - from
 
--- src/lib.rt:154:5
 loop-holds : tie.Need-loop-holds Inv-loop μ-loop
 loop-holds c = (search needs, search needs, search needs, omega arith, search needs, search needs, close-none (c .args .a .now) (c .args .i) (c .args .j))
 
--- src/lib.rt:155:17
 mul-a : tie.Need-mul-a Inv-loop μ-loop
 mul-a c = search needs
 
--- src/lib.rt:155:17
 element-copy-out-a : tie.Need-element-copy-out-a Inv-loop μ-loop
 element-copy-out-a c = search needs
 
--- src/lib.rt:155:9
 mul-a-2 : tie.Need-mul-a-2 Inv-loop μ-loop
 mul-a-2 c = search needs
 
--- src/lib.rt:155:9
 element-write-a : tie.Need-element-write-a Inv-loop μ-loop
 element-write-a c = search needs
 
--- src/lib.rt:156:9
 add-to : tie.Need-add-to Inv-loop μ-loop
 add-to c = search needs
 
--- src/lib.rt:157:9
 add-from : tie.Need-add-from Inv-loop μ-loop
 add-from c = search needs
 
--- src/lib.rt:154:5
 loop-less : tie.Need-loop-less Inv-loop μ-loop
 loop-less c = search needs
 
--- src/lib.rt:154:5
 loop-again : tie.Need-loop-again Inv-loop μ-loop
-loop-again c = let L = c .before .before .loop in
+loop-again c =
+    let L = c .before .before .loop in
     let A = c .before .before .before .args in
     let len : length (A .a .now) ≡ 256 = search needs in (
       omega arith,
@@ -63,9 +52,9 @@ loop-again c = let L = c .before .before .loop in
       close-turn (A .a .now) (L .a) (A .i) (A .j) (L .to) (L .from) (omega arith) (omega arith) (omega arith) (L .inv .3) (L .inv .6),
     )
 
--- src/lib.rt:148:1
 returns : tie.Need-returns Inv-loop μ-loop
-returns c = let L = c .before .loop in
+returns c =
+    let L = c .before .loop in
     let A = c .before .before .args in
     let e : L .from ≡ A .n = omega arith in
     (L .inv .5, rw e at (L .inv .6) ∙ close-end (A .a .now) (A .n) (A .i) (A .j))

@@ -1,37 +1,26 @@
-use Rattle.links.proofs.Changes.{tree-cut}
-use Prim.Native.Nat.{ℕ, _+_, _-_, _≤_, _<_}
-use native.Mathlib.Omega.{arith}
 use borrow.Author.Needs.{needs}
+use Rattle.links.proofs.Changes.{tree-cut}
 use Rattle.links.proofs.cut_tree.Statement.{statement}
 use Rattle.links.proofs.cut_tree.Tie as tie
-use Rattle.links.proofs.cut_tree.Reads as reads
-use Rattle.links.proofs.cut_tree.Lts as lts
-use Rattle.links.proofs.cut_out.Reads as cut-out-reads
-use Rattle.links.proofs.segment_end.Reads as segment-end-reads
 
--- src/lib.rt:231:9
 segment-end-requires : tie.Need-segment-end-requires
 segment-end-requires c κs = search needs
 
--- src/lib.rt:232:5
 cut-out-requires : tie.Need-cut-out-requires
 cut-out-requires c κs = search needs
 
--- src/lib.rt:233:5
 cut-out-requires-2 : tie.Need-cut-out-requires-2
 cut-out-requires-2 c κs = search needs
 
--- src/lib.rt:234:21
 sub-l : tie.Need-sub-l
 sub-l c = search needs
 
--- src/lib.rt:234:15
 add-l : tie.Need-add-l
 add-l c = search needs
 
--- src/lib.rt:226:1
 returns : tie.Need-returns
-returns c = let A = c .before .before .before .before .before .before .before .args in
+returns c =
+    let A = c .before .before .before .before .before .before .before .args in
     let E = c .before .before .before .before .segment-end in
     tree-cut (A .t1) (c .before .before .cut-out .last .0) (c .cut-out2 .last .0) (A .at) (E .result) (E .ensures .2) (c .before .before .cut-out .ensures .1) (c .cut-out2 .ensures .1)
 

@@ -1,71 +1,63 @@
-use mathlib.Core.Path.{_≡_, refl, sym, ap, _∙_}
-use lib.ListN.{length, take, drop, getD}
+use Prim.Native.Nat.{_-_, _≤_}
+use mathlib.Core.Path.{_≡_, refl, sym, _∙_}
+use native.Mathlib.Omega.{arith}
+use lib.ListN.{length, take, drop}
+use borrow.Author.Needs.{needs}
 use Rattle.forest.specs.Table.{depthsFrom}
 use Rattle.links.proofs.Steps.{shape-zero, shape-jump, shape-on, shape-end}
-use Prim.Native.Nat.{ℕ, _+_, _-_, _≤_, _<_}
-use native.Mathlib.Omega.{arith}
-use borrow.Author.Needs.{needs}
 use Rattle.links.proofs.depths_ok.Statement.{statement}
 use Rattle.links.proofs.depths_ok.Tie as tie
-use Rattle.links.proofs.depths_ok.Reads as reads
-use Rattle.links.proofs.depths_ok.Lts as lts
 
 abbrev Inv-loop : tie.InvT-loop
-Inv-loop depth n b₀ i₀ b i = (i ≤ n) × (depthsFrom 0 (take n depth) ≡ depthsFrom b (drop i (take n depth)))
+Inv-loop depth n b₀ i₀ b i = (b ≤ i) × (i ≤ n) × (n ≤ 256) × (depthsFrom 0 (take n depth) ≡ depthsFrom b (drop i (take n depth)))
 
 abbrev μ-loop : tie.MeasureT-loop
 μ-loop depth n b₀ i₀ b i = n - i
 
--- src/lib.rt:93:5
 loop-holds : tie.Need-loop-holds Inv-loop μ-loop
-loop-holds c = (omega arith, refl)
+loop-holds c = (omega arith, omega arith, search needs, refl)
 
--- src/lib.rt:94:17
 mul-d : tie.Need-mul-d Inv-loop μ-loop
 mul-d c = search needs
 
--- src/lib.rt:94:17
 element-copy-out-d : tie.Need-element-copy-out-d Inv-loop μ-loop
 element-copy-out-d c = search needs
 
--- src/lib.rt:96:13
 returns : tie.Need-returns Inv-loop μ-loop
 returns c = let L = c .before .before .before .loop in
     let A = c .before .before .before .before .args in
     let D = A .depth .now in
     let len : length D ≡ 256 = search needs in
-    sym (L .inv .1 ∙ shape-zero (L .b) (A .n) (L .i) D (omega arith) (omega arith) (c .if1 .taken))
+    sym (L .inv .3 ∙ shape-zero (L .b) (A .n) (L .i) D (omega arith) (omega arith) (c .if1 .taken))
 
--- src/lib.rt:99:13
+add-if2 : tie.Need-add-if2 Inv-loop μ-loop
+add-if2 c = search needs
+
 returns-2 : tie.Need-returns-2 Inv-loop μ-loop
 returns-2 c = let L = c .before .before .before .before .loop in
     let A = c .before .before .before .before .before .args in
     let D = A .depth .now in
     let len : length D ≡ 256 = search needs in
-    sym (L .inv .1 ∙ shape-jump (L .b) (A .n) (L .i) D (omega arith) (omega arith) (omega arith) (c .if2 .taken))
+    sym (L .inv .3 ∙ shape-jump (L .b) (A .n) (L .i) D (omega arith) (omega arith) (omega arith) (c .if2 .taken))
 
--- src/lib.rt:102:9
 add-i : tie.Need-add-i Inv-loop μ-loop
 add-i c = search needs
 
--- src/lib.rt:93:5
 loop-less : tie.Need-loop-less Inv-loop μ-loop
 loop-less c = search needs
 
--- src/lib.rt:93:5
 loop-again : tie.Need-loop-again Inv-loop μ-loop
 loop-again c = let L = c .before .before .before .before .loop in
     let A = c .before .before .before .before .before .args in
     let D = A .depth .now in
     let len : length D ≡ 256 = search needs in
-    (omega arith, L .inv .1 ∙ shape-on (L .b) (A .n) (L .i) D (omega arith) (omega arith) (omega arith) (c .if2 .left))
+    (omega arith, omega arith, omega arith, L .inv .3 ∙ shape-on (L .b) (A .n) (L .i) D (omega arith) (omega arith) (omega arith) (c .if2 .left))
 
--- src/lib.rt:87:1
 returns-3 : tie.Need-returns-3 Inv-loop μ-loop
 returns-3 c = let L = c .before .loop in
     let A = c .before .before .args in
     let e : L .i ≡ A .n = omega arith in
-    sym (rw e at (L .inv .1) ∙ shape-end (L .b) (A .n) (A .depth .now))
+    sym (rw e at (L .inv .3) ∙ shape-end (L .b) (A .n) (A .depth .now))
 
 pub depths-ok-spec : {M : Type 1} → statement M
 depths-ok-spec =
@@ -77,6 +69,7 @@ depths-ok-spec =
     mul-d
     element-copy-out-d
     returns
+    add-if2
     returns-2
     add-i
     loop-less

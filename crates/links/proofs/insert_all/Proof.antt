@@ -1,34 +1,24 @@
-use mathlib.Core.Path.{_≡_}
-use lib.ListN.{length}
-use Rattle.links.proofs.Steps.{inserted-all}
-use Prim.Native.Nat.{ℕ, _+_, _-_, _≤_, _<_}
 use native.Mathlib.Omega.{arith}
 use borrow.Author.Needs.{needs}
+use Rattle.links.proofs.Steps.{inserted-all}
 use Rattle.links.proofs.insert_all.Statement.{statement}
 use Rattle.links.proofs.insert_all.Tie as tie
-use Rattle.links.proofs.insert_all.Reads as reads
-use Rattle.links.proofs.insert_all.Lts as lts
-use Rattle.links.proofs.copy_over.Reads as copy-over-reads
 
--- src/lib.rt:143:5
 copy-over-requires : tie.Need-copy-over-requires
 copy-over-requires c κs = search needs
 
--- src/lib.rt:144:18
 add-copy-over : tie.Need-add-copy-over
 add-copy-over c = search needs
 
--- src/lib.rt:144:34
 sub-copy-over : tie.Need-sub-copy-over
 sub-copy-over c = search needs
 
--- src/lib.rt:144:5
 copy-over-requires-2 : tie.Need-copy-over-requires-2
 copy-over-requires-2 c κs = search needs
 
--- src/lib.rt:138:1
 returns : tie.Need-returns
-returns c = let C1 = c .before .before .before .copy-over in
+returns c =
+    let C1 = c .before .before .before .copy-over in
     let A = c .before .before .before .before .before .before .args in
     let P = c .before .before .before .before .before .before .pre in (
       c .copy-over2 .ensures .0,

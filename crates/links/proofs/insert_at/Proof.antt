@@ -1,14 +1,12 @@
-use mathlib.Core.Path.{_≡_, refl, sym, ap, _∙_}
+use Prim.Native.Nat.{_-_, _≤_, _<_}
+use mathlib.Core.Path.{_≡_, refl, _∙_}
 use mathlib.Core.List.{_∷_, _++_}
-use lib.ListN.{length, take, drop}
-use Rattle.links.proofs.Steps.{carry-on, carry-end}
-use Prim.Native.Nat.{ℕ, _+_, _-_, _≤_, _<_}
 use native.Mathlib.Omega.{arith}
+use lib.ListN.{length, take, drop}
 use borrow.Author.Needs.{needs}
+use Rattle.links.proofs.Steps.{carry-on, carry-end}
 use Rattle.links.proofs.insert_at.Statement.{statement}
 use Rattle.links.proofs.insert_at.Tie as tie
-use Rattle.links.proofs.insert_at.Reads as reads
-use Rattle.links.proofs.insert_at.Lts as lts
 
 abbrev Inv-loop : tie.InvT-loop
 Inv-loop a₀ n e x carry₀ i₀ a carry i = (e ≤ i) × (i ≤ n) × (n < 256) × (length a ≡ 256) × (take i a ++ (carry ∷ drop i a) ≡ take e a₀ ++ (x ∷ drop e a₀))
@@ -16,50 +14,41 @@ Inv-loop a₀ n e x carry₀ i₀ a carry i = (e ≤ i) × (i ≤ n) × (n < 256
 abbrev μ-loop : tie.MeasureT-loop
 μ-loop a₀ n e x carry₀ i₀ a carry i = n - i
 
--- src/lib.rt:116:5
 loop-holds : tie.Need-loop-holds Inv-loop μ-loop
 loop-holds c = (search needs, search needs, search needs, search needs, refl)
 
--- src/lib.rt:117:17
 mul-t : tie.Need-mul-t Inv-loop μ-loop
 mul-t c = search needs
 
--- src/lib.rt:117:17
 element-copy-out-t : tie.Need-element-copy-out-t Inv-loop μ-loop
 element-copy-out-t c = search needs
 
--- src/lib.rt:118:9
 mul-a : tie.Need-mul-a Inv-loop μ-loop
 mul-a c = search needs
 
--- src/lib.rt:118:9
 element-write-a : tie.Need-element-write-a Inv-loop μ-loop
 element-write-a c = search needs
 
--- src/lib.rt:120:9
 add-i : tie.Need-add-i Inv-loop μ-loop
 add-i c = search needs
 
--- src/lib.rt:116:5
 loop-less : tie.Need-loop-less Inv-loop μ-loop
 loop-less c = search needs
 
--- src/lib.rt:116:5
 loop-again : tie.Need-loop-again Inv-loop μ-loop
-loop-again c = let L = c .before .before .loop in
+loop-again c =
+    let L = c .before .before .loop in
     (omega arith, omega arith, omega arith, search needs, carry-on (L .a) (L .i) (L .carry) (omega arith) ∙ L .inv .4)
 
--- src/lib.rt:122:5
 mul-a-2 : tie.Need-mul-a-2 Inv-loop μ-loop
 mul-a-2 c = search needs
 
--- src/lib.rt:122:5
 element-write-a-2 : tie.Need-element-write-a-2 Inv-loop μ-loop
 element-write-a-2 c = search needs
 
--- src/lib.rt:110:1
 returns : tie.Need-returns Inv-loop μ-loop
-returns c = let L = c .before .loop in
+returns c =
+    let L = c .before .loop in
     let A = c .before .before .args in
     let len : length (A .a .now) ≡ 256 = search needs in
     let e : L .i ≡ A .n = omega arith in

@@ -1,109 +1,91 @@
-use Rattle.links.proofs.Changes.{depth-fits, after-inside, moved-last}
+use Prim.Native.Nat.{_+_}
 use mathlib.Core.Path.{_≡_, refl}
-use lib.ListN.{length, getD}
-use Prim.Native.Nat.{ℕ, _+_, _-_, _≤_, _<_}
 use native.Mathlib.Omega.{arith}
+use lib.ListN.{length, getD}
 use borrow.Author.Needs.{needs}
+use Rattle.links.proofs.Changes.{depth-fits, after-inside, moved-last}
 use Rattle.links.proofs.move_last.Statement.{statement}
 use Rattle.links.proofs.move_last.Tie as tie
-use Rattle.links.proofs.move_last.Reads as reads
-use Rattle.links.proofs.move_last.Lts as lts
-use Rattle.links.proofs.after_cut.Reads as after-cut-reads
-use Rattle.links.proofs.cut_out.Reads as cut-out-reads
-use Rattle.links.proofs.insert_all.Reads as insert-all-reads
-use Rattle.links.proofs.segment_end.Reads as segment-end-reads
-use Rattle.links.proofs.shift.Reads as shift-reads
 
 lens : (c : tie.Start) → (length (c .args .t1 .order) ≡ 256) × (length (c .args .t1 .depth) ≡ 256)
 lens c = (search needs, search needs)
 
--- src/lib.rt:252:9
 segment-end-requires : tie.Need-segment-end-requires
 segment-end-requires c κs = search needs
 
--- src/lib.rt:255:15
 mul-was : tie.Need-mul-was
 mul-was c = search needs
 
--- src/lib.rt:255:15
 array-read-was : tie.Need-array-read-was
 array-read-was c = search needs
 
--- src/lib.rt:256:17
 mul-above : tie.Need-mul-above
 mul-above c = search needs
 
--- src/lib.rt:256:17
 array-read-above : tie.Need-array-read-above
 array-read-above c = search needs
 
--- src/lib.rt:257:35
 add-shift : tie.Need-add-shift
-add-shift c = let Z = c .before .before .before .before .before .before in
+add-shift c =
+    let Z = c .before .before .before .before .before .before in
     let T = Z .args .t1 in
     omega (arith, depth-fits (T .count) (T .depth) (Z .pre .4) (Z .args .to) (Z .pre .1), Z .pre)
 
--- src/lib.rt:257:5
 shift-requires : tie.Need-shift-requires
-shift-requires c κs = let E = c .before .before .before .segment-end in
+shift-requires c κs =
+    let E = c .before .before .before .segment-end in
     let Z = c .before .before .before .before .before .before in
     let T = Z .args .t1 in
     let small = depth-fits (T .count) (T .depth) (Z .pre .4) in
-    (omega (arith, E .ensures), omega (arith, E .ensures, Z .pre), omega (arith, small (Z .args .to) (Z .pre .1), Z .pre), lens Z .1, λ j h. omega (arith, small j (omega (arith, E .ensures)), E .ensures, Z .pre))
+    let d = small (Z .args .to) (Z .pre .1) in
+    (omega (arith, E .ensures), omega (arith, E .ensures, Z .pre), lens Z .1, λ j g h. omega (arith, d, small j (omega (arith, E .ensures)), E .ensures, Z .pre))
 
--- src/lib.rt:258:5
 cut-out-requires : tie.Need-cut-out-requires
 cut-out-requires c κs = search needs
 
--- src/lib.rt:259:5
 cut-out-requires-2 : tie.Need-cut-out-requires-2
 cut-out-requires-2 c κs = search needs
 
--- src/lib.rt:260:19
 sub-m : tie.Need-sub-m
 sub-m c = search needs
 
--- src/lib.rt:260:13
 add-m : tie.Need-add-m
 add-m c = search needs
 
--- src/lib.rt:261:9
 after-cut-requires : tie.Need-after-cut-requires
-after-cut-requires c κs = let E = c .before .before .before .before .before .before .before .before .segment-end in
+after-cut-requires c κs =
+    let E = c .before .before .before .before .before .before .before .before .segment-end in
     let Z = c .before .before .before .before .before .before .before .before .before .before .before in
     (omega (arith, E .ensures), λ h. rw (E .ensures .2) (Z .pre .3 h))
 
--- src/lib.rt:262:9
 segment-end-requires-2 : tie.Need-segment-end-requires-2
-segment-end-requires-2 c κs = let E = c .before .before .before .before .before .before .before .before .before .before .before .segment-end in
+segment-end-requires-2 c κs =
+    let E = c .before .before .before .before .before .before .before .before .before .before .before .segment-end in
     let Z = c .before .before .before .before .before .before .before .before .before .before .before .before .before .before in
     let A = Z .args in
     let in-place = after-inside (A .t1 .count) (A .at) (E .result) (A .to) (omega (arith, E .ensures)) (E .ensures .1) (Z .pre .1) (λ h. rw (E .ensures .2) (Z .pre .3 h)) in
     (rw (c .before .before .after-cut .ensures) in-place, omega (arith, E .ensures, Z .pre .2), c .before .before .before .cut-out2 .ensures .0)
 
--- src/lib.rt:263:48
 sub-insert-all : tie.Need-sub-insert-all
 sub-insert-all c = search needs
 
--- src/lib.rt:263:5
 insert-all-requires : tie.Need-insert-all-requires
-insert-all-requires c κs = let E = c .before .before .before .before .before .before .before .before .before .before .before .before .before .before .segment-end in
+insert-all-requires c κs =
+    let E = c .before .before .before .before .before .before .before .before .before .before .before .before .before .before .segment-end in
     let Z = c .before .before .before .before .before .before .before .before .before .before .before .before .before .before .before .before .before in
     let n = Z .pre .2 in
     let h = E .ensures in
     (c .before .before .segment-end2 .ensures .1, omega (arith, h, n), omega (arith, h, n), c .before .before .before .before .before .before .before .before .cut-out .ensures .0, lens Z .0)
 
--- src/lib.rt:264:48
 sub-insert-all-2 : tie.Need-sub-insert-all-2
 sub-insert-all-2 c = search needs
 
--- src/lib.rt:264:5
 insert-all-requires-2 : tie.Need-insert-all-requires-2
 insert-all-requires-2 c κs = search needs
 
--- src/lib.rt:247:1
 returns : tie.Need-returns
-returns c = let G = c .before .before .before .before .before .before .segment-end2 in
+returns c =
+    let G = c .before .before .before .before .before .before .segment-end2 in
     let Q = c .before .before .before .before .before .before .before .before .before .after-cut in
     let C = c .before .before .before .before .before .before .before .before .before .before .cut-out2 in
     let O = c .before .before .before .before .before .before .before .before .before .before .before .before .cut-out in

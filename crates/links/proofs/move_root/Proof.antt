@@ -1,76 +1,59 @@
-use Rattle.links.proofs.Changes.{depth-fits, moved-root}
+use Prim.Native.Nat.{_+_, _-_}
 use mathlib.Core.Path.{_≡_, refl}
-use lib.ListN.{length, getD}
-use Prim.Native.Nat.{ℕ, _+_, _-_, _≤_, _<_}
 use native.Mathlib.Omega.{arith}
+use lib.ListN.{length}
 use borrow.Author.Needs.{needs}
+use Rattle.links.proofs.Changes.{depth-fits, moved-root}
 use Rattle.links.proofs.move_root.Statement.{statement}
 use Rattle.links.proofs.move_root.Tie as tie
-use Rattle.links.proofs.move_root.Reads as reads
-use Rattle.links.proofs.move_root.Lts as lts
-use Rattle.links.proofs.cut_out.Reads as cut-out-reads
-use Rattle.links.proofs.insert_all.Reads as insert-all-reads
-use Rattle.links.proofs.segment_end.Reads as segment-end-reads
-use Rattle.links.proofs.shift.Reads as shift-reads
 
 lens : (c : tie.Start) → (length (c .args .t1 .order) ≡ 256) × (length (c .args .t1 .depth) ≡ 256)
 lens c = (search needs, search needs)
 
--- src/lib.rt:275:9
 segment-end-requires : tie.Need-segment-end-requires
 segment-end-requires c κs = search needs
 
--- src/lib.rt:278:15
 mul-was : tie.Need-mul-was
 mul-was c = search needs
 
--- src/lib.rt:278:15
 array-read-was : tie.Need-array-read-was
 array-read-was c = search needs
 
--- src/lib.rt:279:5
 shift-requires : tie.Need-shift-requires
-shift-requires c κs = let E = c .before .before .before .segment-end in
+shift-requires c κs =
+    let E = c .before .before .before .segment-end in
     let Z = c .before .before .before .before .before .before in
     let T = Z .args .t1 in
     let small = depth-fits (T .count) (T .depth) (Z .pre .2) in
-    (omega (arith, E .ensures), omega (arith, E .ensures, Z .pre), omega arith, lens Z .1, λ j h. omega (arith, small j (omega (arith, E .ensures)), E .ensures, Z .pre))
+    (omega (arith, E .ensures), omega (arith, E .ensures, Z .pre), lens Z .1, λ j g h. omega (arith, small j (omega (arith, E .ensures)), E .ensures, Z .pre))
 
--- src/lib.rt:280:5
 cut-out-requires : tie.Need-cut-out-requires
 cut-out-requires c κs = search needs
 
--- src/lib.rt:281:5
 cut-out-requires-2 : tie.Need-cut-out-requires-2
 cut-out-requires-2 c κs = search needs
 
--- src/lib.rt:282:19
 sub-m : tie.Need-sub-m
 sub-m c = search needs
 
--- src/lib.rt:282:13
 add-m : tie.Need-add-m
 add-m c = search needs
 
--- src/lib.rt:283:48
 sub-insert-all : tie.Need-sub-insert-all
 sub-insert-all c = search needs
 
--- src/lib.rt:283:5
 insert-all-requires : tie.Need-insert-all-requires
 insert-all-requires c κs = search needs
 
--- src/lib.rt:284:48
 sub-insert-all-2 : tie.Need-sub-insert-all-2
 sub-insert-all-2 c = search needs
 
--- src/lib.rt:284:5
 insert-all-requires-2 : tie.Need-insert-all-requires-2
 insert-all-requires-2 c κs = search needs
 
--- src/lib.rt:270:1
 returns : tie.Need-returns
-returns c = let S = c .before .before .before .before .before .before .before .before .before .before in
+returns c =
+    let S = c .before .before .before .before .before .before .before .before .before .before in
     let E = c .before .before .before .before .before .before .before .before .before .before .before .before .before .before .segment-end in
     let Z = c .before .before .before .before .before .before .before .before .before .before .before .before .before .before .before .before .before in
     let A = Z .args in

@@ -1,14 +1,12 @@
-use mathlib.Core.Path.{_≡_, refl, sym, ap, _∙_}
+use Prim.Native.Nat.{_≤_, _<_}
+use mathlib.Core.Path.{_≡_, refl, sym, _∙_}
+use native.Mathlib.Omega.{arith}
 use lib.ListN.{length, take, getD}
+use borrow.Author.Needs.{needs}
 use Rattle.forest.specs.Table.{lastAbove}
 use Rattle.links.proofs.Steps.{parent-on, parent-stop}
-use Prim.Native.Nat.{ℕ, _+_, _-_, _≤_, _<_}
-use native.Mathlib.Omega.{arith}
-use borrow.Author.Needs.{needs}
 use Rattle.links.proofs.parent_at.Statement.{statement}
 use Rattle.links.proofs.parent_at.Tie as tie
-use Rattle.links.proofs.parent_at.Reads as reads
-use Rattle.links.proofs.parent_at.Lts as lts
 
 abbrev Inv-loop : tie.InvT-loop
 Inv-loop order depth at root d j₀ j = (j ≤ at) × (at < 256) × (lastAbove d root (take at order) (take at depth) ≡ lastAbove d root (take j order) (take j depth))
@@ -16,62 +14,53 @@ Inv-loop order depth at root d j₀ j = (j ≤ at) × (at < 256) × (lastAbove d
 abbrev μ-loop : tie.MeasureT-loop
 μ-loop order depth at root d j₀ j = j
 
--- src/lib.rt:57:13
 mul-d : tie.Need-mul-d Inv-loop μ-loop
 mul-d c = search needs
 
--- src/lib.rt:57:13
 element-copy-out-d : tie.Need-element-copy-out-d Inv-loop μ-loop
 element-copy-out-d c = search needs
 
--- src/lib.rt:59:5
 loop-holds : tie.Need-loop-holds Inv-loop μ-loop
 loop-holds c = (omega arith, search needs, refl)
 
--- src/lib.rt:60:9
 sub-j : tie.Need-sub-j Inv-loop μ-loop
 sub-j c = search needs
 
--- src/lib.rt:61:12
 mul-if1 : tie.Need-mul-if1 Inv-loop μ-loop
 mul-if1 c = search needs
 
--- src/lib.rt:61:12
 element-copy-out-if1 : tie.Need-element-copy-out-if1 Inv-loop μ-loop
 element-copy-out-if1 c = search needs
 
--- src/lib.rt:62:20
 mul-result : tie.Need-mul-result Inv-loop μ-loop
 mul-result c = search needs
 
--- src/lib.rt:62:20
 element-copy-out-result : tie.Need-element-copy-out-result Inv-loop μ-loop
 element-copy-out-result c = search needs
 
--- src/lib.rt:62:13
 returns : tie.Need-returns Inv-loop μ-loop
-returns c = let L = c .before .before .before .before .loop in
+returns c =
+    let L = c .before .before .before .before .loop in
     let A = c .before .before .before .before .before .before .args in
     let lx : length (A .order .now) ≡ 256 = search needs in
     let ld : length (A .depth .now) ≡ 256 = search needs in
     sym (L .inv .2 ∙ parent-stop (getD (A .depth .now) (A .at) 0) (A .root) (L .j) (A .order .now) (A .depth .now) (omega arith) (omega arith) (omega arith) (c .before .if1 .taken))
 
--- src/lib.rt:59:5
 loop-less : tie.Need-loop-less Inv-loop μ-loop
 loop-less c = search needs
 
--- src/lib.rt:59:5
 loop-again : tie.Need-loop-again Inv-loop μ-loop
-loop-again c = let L = c .before .before .before .loop in
+loop-again c =
+    let L = c .before .before .before .loop in
     let A = c .before .before .before .before .before .args in
     let lx : length (A .order .now) ≡ 256 = search needs in
     let ld : length (A .depth .now) ≡ 256 = search needs in
     (omega arith, omega arith, L .inv .2 ∙ parent-on (getD (A .depth .now) (A .at) 0) (A .root) (L .j) (A .order .now) (A .depth .now) (omega arith) (omega arith) (omega arith) (c .if1 .left))
 
--- src/lib.rt:53:1
 returns-2 : tie.Need-returns-2 Inv-loop μ-loop
 unfolding lastAbove
-returns-2 c = let L = c .before .loop in
+returns-2 c =
+    let L = c .before .loop in
     let z : L .j ≡ 0 = omega arith in
     sym (rw z at (L .inv .2))
 

@@ -1,14 +1,12 @@
-use mathlib.Core.Path.{_≡_, refl, sym, ap, _∙_}
+use Prim.Native.Nat.{_+_, _-_, _≤_}
+use mathlib.Core.Path.{_≡_, sym, _∙_}
+use native.Mathlib.Omega.{arith}
 use lib.ListN.{length, take, drop}
+use borrow.Author.Needs.{needs}
 use Rattle.forest.specs.Table.{indexOf}
 use Rattle.links.proofs.Steps.{idx-on, idx-stop, idx-end}
-use Prim.Native.Nat.{ℕ, _+_, _-_, _≤_, _<_}
-use native.Mathlib.Omega.{arith}
-use borrow.Author.Needs.{needs}
 use Rattle.links.proofs.position.Statement.{statement}
 use Rattle.links.proofs.position.Tie as tie
-use Rattle.links.proofs.position.Reads as reads
-use Rattle.links.proofs.position.Lts as lts
 
 abbrev Inv-loop : tie.InvT-loop
 Inv-loop order n x i₀ i = (i ≤ n) × (indexOf x (take n order) ≡ i + indexOf x (drop i (take n order)))
@@ -16,45 +14,40 @@ Inv-loop order n x i₀ i = (i ≤ n) × (indexOf x (take n order) ≡ i + index
 abbrev μ-loop : tie.MeasureT-loop
 μ-loop order n x i₀ i = n - i
 
--- src/lib.rt:27:5
 loop-holds : tie.Need-loop-holds Inv-loop μ-loop
 loop-holds c = (omega arith, omega arith)
 
--- src/lib.rt:28:12
 mul-if1 : tie.Need-mul-if1 Inv-loop μ-loop
 mul-if1 c = search needs
 
--- src/lib.rt:28:12
 element-copy-out-if1 : tie.Need-element-copy-out-if1 Inv-loop μ-loop
 element-copy-out-if1 c = search needs
 
--- src/lib.rt:29:13
 returns : tie.Need-returns Inv-loop μ-loop
-returns c = let L = c .before .before .before .loop in
+returns c =
+    let L = c .before .before .before .loop in
     let A = c .before .before .before .before .args in
     let O = A .order .now in
     let len : length O ≡ 256 = search needs in
     (omega arith, sym (L .inv .1 ∙ idx-stop (A .x) (A .n) (L .i) O (omega arith) (omega arith) (c .if1 .taken)))
 
--- src/lib.rt:31:9
 add-i : tie.Need-add-i Inv-loop μ-loop
 add-i c = search needs
 
--- src/lib.rt:27:5
 loop-less : tie.Need-loop-less Inv-loop μ-loop
 loop-less c = search needs
 
--- src/lib.rt:27:5
 loop-again : tie.Need-loop-again Inv-loop μ-loop
-loop-again c = let L = c .before .before .before .loop in
+loop-again c =
+    let L = c .before .before .before .loop in
     let A = c .before .before .before .before .args in
     let O = A .order .now in
     let len : length O ≡ 256 = search needs in
     (omega arith, L .inv .1 ∙ idx-on (A .x) (A .n) (L .i) O (omega arith) (omega arith) (c .if1 .left))
 
--- src/lib.rt:22:1
 returns-2 : tie.Need-returns-2 Inv-loop μ-loop
-returns-2 c = let L = c .before .loop in
+returns-2 c =
+    let L = c .before .loop in
     let A = c .before .before .args in
     let O = A .order .now in
     let len : length O ≡ 256 = search needs in

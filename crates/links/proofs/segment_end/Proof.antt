@@ -1,14 +1,12 @@
-use mathlib.Core.Path.{_≡_, refl, sym, ap, _∙_}
-use lib.ListN.{length, take, drop, getD}
-use Rattle.forest.specs.Table.{run, segEnd}
-use Rattle.links.proofs.Steps.{run-on, run-stop, run-end, seg-from}
-use Prim.Native.Nat.{ℕ, _+_, _-_, _≤_, _<_}
+use Prim.Native.Nat.{_+_, _-_, _≤_, _<_}
+use mathlib.Core.Path.{_≡_, refl, sym, _∙_}
 use native.Mathlib.Omega.{arith}
+use lib.ListN.{length, take, drop, getD}
 use borrow.Author.Needs.{needs}
+use Rattle.forest.specs.Table.{run}
+use Rattle.links.proofs.Steps.{run-on, run-stop, run-end, seg-from}
 use Rattle.links.proofs.segment_end.Statement.{statement}
 use Rattle.links.proofs.segment_end.Tie as tie
-use Rattle.links.proofs.segment_end.Reads as reads
-use Rattle.links.proofs.segment_end.Lts as lts
 
 abbrev Inv-loop : tie.InvT-loop
 Inv-loop depth n at d e₀ e = (at < e) × (e ≤ n) × (at + 1 + run d (drop (at + 1) (take n depth)) ≡ e + run d (drop e (take n depth)))
@@ -16,57 +14,49 @@ Inv-loop depth n at d e₀ e = (at < e) × (e ≤ n) × (at + 1 + run d (drop (a
 abbrev μ-loop : tie.MeasureT-loop
 μ-loop depth n at d e₀ e = n - e
 
--- src/lib.rt:41:13
 mul-d : tie.Need-mul-d Inv-loop μ-loop
 mul-d c = search needs
 
--- src/lib.rt:41:13
 element-copy-out-d : tie.Need-element-copy-out-d Inv-loop μ-loop
 element-copy-out-d c = search needs
 
--- src/lib.rt:42:17
 add-e : tie.Need-add-e Inv-loop μ-loop
 add-e c = search needs
 
--- src/lib.rt:43:5
 loop-holds : tie.Need-loop-holds Inv-loop μ-loop
 loop-holds c = (omega arith, omega arith, refl)
 
--- src/lib.rt:44:12
 mul-if1 : tie.Need-mul-if1 Inv-loop μ-loop
 mul-if1 c = search needs
 
--- src/lib.rt:44:12
 element-copy-out-if1 : tie.Need-element-copy-out-if1 Inv-loop μ-loop
 element-copy-out-if1 c = search needs
 
--- src/lib.rt:45:13
 returns : tie.Need-returns Inv-loop μ-loop
-returns c = let L = c .before .before .before .loop in
+returns c =
+    let L = c .before .before .before .loop in
     let A = c .before .before .before .before .before .args in
     let D = A .depth .now in
     let len : length D ≡ 256 = search needs in
     (omega arith, omega arith, sym (seg-from (A .n) (A .at) D (omega arith) ∙ L .inv .2 ∙ run-stop (getD D (A .at) 0) (A .n) (L .e) D (omega arith) (omega arith) (omega arith)))
 
--- src/lib.rt:47:9
 add-e-2 : tie.Need-add-e-2 Inv-loop μ-loop
 add-e-2 c = search needs
 
--- src/lib.rt:43:5
 loop-less : tie.Need-loop-less Inv-loop μ-loop
 loop-less c = search needs
 
--- src/lib.rt:43:5
 loop-again : tie.Need-loop-again Inv-loop μ-loop
-loop-again c = let L = c .before .before .before .loop in
+loop-again c =
+    let L = c .before .before .before .loop in
     let A = c .before .before .before .before .before .args in
     let D = A .depth .now in
     let len : length D ≡ 256 = search needs in
     (omega arith, omega arith, L .inv .2 ∙ run-on (getD D (A .at) 0) (A .n) (L .e) D (omega arith) (omega arith) (omega arith))
 
--- src/lib.rt:37:1
 returns-2 : tie.Need-returns-2 Inv-loop μ-loop
-returns-2 c = let L = c .before .loop in
+returns-2 c =
+    let L = c .before .loop in
     let A = c .before .before .before .args in
     let D = A .depth .now in
     let len : length D ≡ 256 = search needs in
