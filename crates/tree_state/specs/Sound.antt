@@ -1,17 +1,20 @@
 -- Document 01's "Sound tree", in its words and order.
 use Prim.Native.Nat.{ℕ, zero, suc, _+_, _≤_, _<_}
 use mathlib.Core.Path.{_≡_}
-use mathlib.Core.Bool.{Bool, true, false}
+use mathlib.Core.Bool.{Bool, true, false, not, _&&_, _||_, cond}
 use mathlib.Core.List.{List, [], _∷_}
+use lib.Dec.{eqb, ltb, leb}
 use lib.ListN.{getD, take}
 use Rattle.geometry.specs.Rectangle.{rectEq}
-use Rattle.clips.specs.Clips.{constructed}
+use Rattle.clips.specs.Clips.{constructed, asConstructed}
 use Rattle.boxes.specs.declared.NodeId.{NodeId}
 use Rattle.box_types.specs.Local.{finiteLocal, known, emptyRect}
 use Rattle.cells.specs.Cells.{idAt}
-use Rattle.counting.specs.Times.{one, times}
+use Rattle.counting.specs.Times.{one, times, every}
+use Rattle.counting.specs.Lists.{onceBelow}
 use Rattle.forest.specs.Forest.{Forest, pre, dep}
-use Rattle.index_sound.specs.Sound.{SoundOf}
+use Rattle.forest.specs.Table.{depthsFrom}
+use Rattle.index_sound.specs.Sound.{SoundOf, soundOf}
 use Rattle.understory_index.specs.declared.Index.{Index}
 use Rattle.tree_state.specs.declared.Tree.{Tree}
 use Rattle.tree_state.specs.Tree as tree
@@ -82,3 +85,61 @@ pub record SoundTree (t : Tree) : Type 0 where
       → (x : ℕ) × Live t x × (committedAt t x ≡ true) × Owns t x k
   -- "its index is sound"
   pub index : SoundOf (t .index .mark) (t .index .free) (t .index .frees) (t .index .dirty) (t .index .queued) (t .index .used)
+
+-- ---- the same as a test that computes
+
+unfoldable pub everyOf : (ℕ → Bool) → List ℕ → Bool
+everyOf p [] = true
+everyOf p (x ∷ xs) = p x && everyOf p xs
+
+-- slots: live and free ones are below 256, each once, and together they are the used ones
+unfoldable pub slotsRight : List ℕ → ℕ → List ℕ → ℕ → ℕ → Bool
+slotsRight order n free m used =
+    leb used 256
+    && (onceBelow 256 order n
+    && (onceBelow 256 free m && every 256 (λ x. eqb (times x (take n order) + times x (take m free)) (one (ltb x used)))))
+
+-- one live node: its values, its marks, and its entry or that it has none yet
+abbrev pub valuesRight : Tree → ℕ → Bool
+valuesRight t x = finiteLocal (localAt t x) && (known (localAt t x .flags) && asConstructed (clipOf t x))
+
+abbrev pub marksRight : Tree → ℕ → Bool
+marksRight t x = markedAt t x || not (transformChangedAt t x || clipChangedAt t x)
+
+abbrev pub sameId : NodeId → NodeId → Bool
+sameId i j = eqb (i .0) (j .0) && eqb (i .1) (j .1)
+
+abbrev pub ownsRight : Tree → ℕ → ℕ → Bool
+ownsRight t x k =
+    ltb k 512
+    && (eqb (entryMark t k) 1 && (eqb (getD (t .index .generation) k 0) (keyAt t x .1) && sameId (idAt (t .index .payload) k) (tree.idAt t x)))
+
+abbrev pub newRight : Tree → ℕ → Bool
+newRight t x =
+    rectEq (storedBounds t x) emptyRect && (rectEq (storedHitBounds t x) emptyRect && (transformChangedAt t x && clipChangedAt t x))
+
+abbrev pub keyRight : Tree → ℕ → Bool
+keyRight t x = cond (committedAt t x) (ownsRight t x (keyAt t x .0)) (newRight t x)
+
+unfoldable pub nodeRight : Tree → ℕ → Bool
+nodeRight t x = valuesRight t x && (marksRight t x && keyRight t x)
+
+-- one entry: empty, removed, or unmarked and owned by the live committed node whose id it carries
+abbrev pub ownerOf : Tree → ℕ → ℕ
+ownerOf t k = idAt (t .index .payload) k .0
+
+abbrev pub ownedRight : Tree → ℕ → Bool
+ownedRight t k = isLive t (ownerOf t k) && (committedAt t (ownerOf t k) && eqb (keyAt t (ownerOf t k) .0) k)
+
+unfoldable pub entryRight : Tree → ℕ → Bool
+entryRight t k = eqb (entryMark t k) 0 || isRemoved (entryMark t k) || (eqb (entryMark t k) 1 && ownedRight t k)
+
+unfoldable pub countsRight : Tree → Bool
+countsRight t = leb (t .pending .count) (removedEntries t) && leb (removedEntries t + committedNodes t) 256
+
+unfoldable pub soundTree : Tree → Bool
+soundTree t =
+    slotsRight (t .links .order) (t .links .count) (t .slots .free) (t .slots .frees) (t .slots .used)
+    && (depthsFrom 0 (take (t .links .count) (t .links .depth))
+    && (soundOf (t .index .mark) (t .index .free) (t .index .frees) (t .index .dirty) (t .index .queued) (t .index .used)
+    && (everyOf (nodeRight t) (liveSlots t) && (every 512 (entryRight t) && countsRight t))))
