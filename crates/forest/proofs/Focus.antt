@@ -1,7 +1,7 @@
 -- A node in its forest's table: one induction, the record `Focus`, from which every law of the table comes.
 use mathlib.Core.Path.{_≡_, refl, sym, ap, _∙_}
 use mathlib.Core.Bool.{true, false}
-use mathlib.Core.List.{List, [], _∷_, _++_, append-assoc}
+use mathlib.Core.List.{List, [], _∷_, _++_, append-assoc, reverseAux}
 use Prim.Native.Nat.{ℕ, suc, _+_, _≤_, _<_}
 use native.Mathlib.Omega.{arith}
 use native.Mathlib.Decide.{decLe}
@@ -11,11 +11,11 @@ use lib.ListN.{length, getD, length-append}
 use Rattle.counting.specs.Times.{one, times}
 use Rattle.counting.proofs.Counting.{miss, times-append}
 use Rattle.forest.specs.Forest.{Forest, tree, pre, dep, has, under, remove, Spot, spot}
-use Rattle.forest.specs.Table.{run, lastAbove}
+use Rattle.forest.specs.Table.{run, lastAbove, lessDeep}
 use Rattle.forest.proofs.Clauses.{Stands, here, down, right, stands, under-here, under-down, under-right, remove-here, remove-down, remove-right, spot-here, spot-down, spot-right}
 use Rattle.forest.proofs.Counting.{lacks-count, count-pre}
-use Rattle.forest.proofs.Lists.{run-append, last-less, last-more, last-append}
-use Rattle.forest.proofs.Whole.{length-dep, pre-cat, dep-cat, run-sibling, last-skip}
+use Rattle.forest.proofs.Lists.{run-append, last-less, last-more, last-append, less-deep, not-less-deep, turned-append}
+use Rattle.forest.proofs.Whole.{length-dep, pre-cat, dep-cat, run-sibling, last-skip, back-skip}
 
 -- ---- p at the spot w in f, where l stands above the roots: what stands before and after its segment, and what the changes leave
 abbrev pub depthAt : Spot → ℕ
@@ -38,6 +38,7 @@ pub record Focus (p : ℕ) (l : List ℕ) (f : Forest) (w : Spot) : Type 0 where
   pub removed : pre (remove p f) ≡ before ++ after
   pub dremoved : dep (suc (length l)) (remove p f) ≡ dbefore ++ dafter
   pub up : (a : ℕ) → lastAbove (depthAt w) (getD l 0 a) before dbefore ≡ getD (w .above) 0 a
+  pub climbs : (xs ds : List ℕ) → lessDeep (suc (length l)) xs ds ≡ l → lessDeep (depthAt w) (reverseAux before xs) (reverseAux dbefore ds) ≡ w .above
   pub deep : length l < length (w .above) → (a b : ℕ) → lastAbove (depthAt w) a before dbefore ≡ lastAbove (depthAt w) b before dbefore
 
 module _ (p : ℕ) (l : List ℕ) where
@@ -62,6 +63,7 @@ module _ (p : ℕ) (l : List ℕ) where
         removed = rw (remove-here p c s);
         dremoved = rw (remove-here p c s);
         up = λ a. refl;
+        climbs = λ xs ds h. h;
         deep = λ h a b. absurd (omega arith);
       }
 
@@ -93,6 +95,7 @@ module _ (p : ℕ) (l : List ℕ) where
           removed = rw (remove-down p y c s e h) (simp (F .removed, append-assoc));
           dremoved = rw (remove-down p y c s e h) (simp (F .dremoved, append-assoc));
           up = λ a. less (getD l 0 a) ∙ F .up a;
+          climbs = λ xs ds g. F .climbs (y ∷ xs) (d ∷ ds) (less-deep (suc d) y d xs ds (omega arith) ∙ ap (λ (m : List ℕ). y ∷ m) g);
           deep = λ g a b. less a ∙ sym (less b);
         }
 
@@ -132,6 +135,11 @@ module _ (p : ℕ) (l : List ℕ) where
                 | no n ↦
                     less (omega arith) (getD l 0 a) ∙ past y ∙ F .deep (omega arith) (lastAbove k y (pre c) (dep (suc d) c)) (getD l 0 a) ∙ F .up a
               ];
+          climbs =
+              λ xs ds g.
+              rw (turned-append (pre c) (F .before) (y ∷ xs), turned-append (dep (suc d) c) (F .dbefore) (d ∷ ds))
+              (F .climbs (reverseAux (pre c) (y ∷ xs)) (reverseAux (dep (suc d) c) (d ∷ ds))
+              (back-skip d (suc d) c (y ∷ xs) (d ∷ ds) (omega arith) ∙ not-less-deep d y d xs ds (omega arith) ∙ g));
           deep = λ g a b. less (omega arith) a ∙ sym (less (omega arith) b);
         }
 

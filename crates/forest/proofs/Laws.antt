@@ -1,7 +1,7 @@
 -- The laws of a forest's table: where a node and its segment stand, what is read there, and what the changes do to the two lists.
 use mathlib.Core.Path.{_≡_, refl, sym, ap, subst, _∙_}
 use mathlib.Core.Bool.{Bool, true, false, _&&_}
-use mathlib.Core.List.{List, [], _∷_, _++_, append-nil}
+use mathlib.Core.List.{List, [], _∷_, _++_, append-nil, reverse}
 use Prim.Native.Nat.{ℕ, suc, _+_, _-_, _≤_, _<_}
 use native.Mathlib.Omega.{arith}
 use lib.Dec.{leb, ltb}
@@ -11,12 +11,12 @@ use Rattle.counting.specs.Times.{times}
 use Rattle.counting.proofs.Counting.{times-append, times-at}
 use Rattle.counting.proofs.Kit.{same, both, at-most, less}
 use Rattle.forest.specs.Forest.{Forest, none, pre, post, dep, has, count, Once, under, remove, spot, kids, above, part, children, depth}
-use Rattle.forest.specs.Table.{segEnd, indexOf, lastAbove, atDepth, postOf}
+use Rattle.forest.specs.Table.{segEnd, indexOf, lastAbove, lessDeep, atDepth, postOf}
 use Rattle.forest.proofs.Bools.{never}
 use Rattle.forest.proofs.Clauses.{has-top, has-low}
 use Rattle.forest.proofs.Holds.{above-below}
 use Rattle.forest.proofs.Counting.{above-has, above-apart, has-count, lacks-count, count-has, count-pre}
-use Rattle.forest.proofs.Lists.{index-here, index-past, index-within, drop-past, Three, three-insert, three-cut, three-before, three-after, three-part, three-within, three-found}
+use Rattle.forest.proofs.Lists.{nothing-above, index-here, index-past, index-within, drop-past, Three, three-insert, three-cut, three-before, three-after, three-part, three-within, three-found}
 use Rattle.forest.proofs.Whole.{length-dep, run-deep, dep-low, post-law, children-law}
 use Rattle.forest.proofs.Focus.{Focus, focus}
 
@@ -148,6 +148,10 @@ module _ (p : ℕ) (f : Forest) (h : has p f ≡ true) where
   -- ---- its parent, or a
   pub parent-at : (a : ℕ) → lastAbove (depth p f) a (take (place p f) (pre f)) (take (place p f) (dep 1 f)) ≡ getD (above p f) 0 a
   parent-at a = rw (three-before (slots-three p f F), three-before (depths-three p f F)) (F .up a)
+
+  -- what is above it, the parent first
+  pub ancestors-at : lessDeep (depth p f) (reverse (take (place p f) (pre f))) (reverse (take (place p f) (dep 1 f))) ≡ above p f
+  ancestors-at = rw (three-before (slots-three p f F), three-before (depths-three p f F)) (F .climbs [] [] (nothing-above 1))
 
   -- ---- changes
   pub pre-under : (t : Forest) → pre (under p t f) ≡ take (end p f) (pre f) ++ (pre t ++ drop (end p f) (pre f))

@@ -1,7 +1,7 @@
 -- The table's functions on lists: their clauses as equations, and on one list behind another.
 use mathlib.Core.Path.{_≡_, refl, sym, _∙_}
 use mathlib.Core.Bool.{true, false}
-use mathlib.Core.List.{List, [], _∷_, _++_, append-assoc}
+use mathlib.Core.List.{List, [], _∷_, _++_, append-assoc, reverseAux}
 use Prim.Native.Nat.{ℕ, zero, suc, _+_, _-_, _≤_, _<_}
 use native.Mathlib.Nat.{le-of-suc-le-suc, not-suc-le-zero, suc-sub-suc, sub-zero}
 use native.Mathlib.Omega.{arith}
@@ -12,7 +12,7 @@ use lib.ListN.{length, take, drop, length-append}
 use lib.Seq.{append-snoc, take-at, drop-at, take-nil, take-take}
 use Rattle.counting.specs.Times.{one, times}
 use Rattle.counting.proofs.Counting.{hit, miss}
-use Rattle.forest.specs.Table.{run, indexOf, lastAbove, atDepth}
+use Rattle.forest.specs.Table.{run, indexOf, lastAbove, lessDeep, atDepth}
 
 -- ---- run
 pub run-more : (d x : ℕ) (xs : List ℕ) → d < x → run d (x ∷ xs) ≡ suc (run d xs)
@@ -78,6 +78,23 @@ last-less k a x d xs ds h = rw (lastAbove, lt-ltb d k h)
 pub last-more : (k a x d : ℕ) (xs ds : List ℕ) → k ≤ d → lastAbove k a (x ∷ xs) (d ∷ ds) ≡ lastAbove k a xs ds
 unfolding lastAbove
 last-more k a x d xs ds h = rw (lastAbove, le-ltb d k h)
+
+pub less-deep : (d x e : ℕ) (xs es : List ℕ) → e < d → lessDeep d (x ∷ xs) (e ∷ es) ≡ x ∷ lessDeep e xs es
+unfolding lessDeep
+less-deep d x e xs es h = rw (lessDeep, lt-ltb e d h)
+
+pub not-less-deep : (d x e : ℕ) (xs es : List ℕ) → d ≤ e → lessDeep d (x ∷ xs) (e ∷ es) ≡ lessDeep d xs es
+unfolding lessDeep
+not-less-deep d x e xs es h = rw (lessDeep, le-ltb e d h)
+
+pub nothing-above : (d : ℕ) → lessDeep d [] [] ≡ []
+unfolding lessDeep
+nothing-above d = refl
+
+-- turned round, behind what stood before
+pub turned-append : (xs ys zs : List ℕ) → reverseAux (xs ++ ys) zs ≡ reverseAux ys (reverseAux xs zs)
+turned-append [] ys zs = refl
+turned-append (x ∷ xs) ys zs = turned-append xs ys (x ∷ zs)
 
 pub last-append : (k a : ℕ) (xs ds ys es : List ℕ) → length xs ≡ length ds → lastAbove k a (xs ++ ys) (ds ++ es) ≡ lastAbove k (lastAbove k a xs ds) ys es
 unfolding lastAbove

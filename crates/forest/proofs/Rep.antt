@@ -1,7 +1,7 @@
 -- Two arrays and a count as the table of a forest: what is read from them, and that every change keeps it so.
 use mathlib.Core.Path.{_≡_, refl, sym, ap, ap₂, subst, _∙_}
 use mathlib.Core.Bool.{true, false, _&&_}
-use mathlib.Core.List.{List, [], _∷_, _++_, map, append-nil}
+use mathlib.Core.List.{List, [], _∷_, _++_, map, append-nil, reverse}
 use Prim.Native.Nat.{ℕ, _+_, _-_, _≤_, _<_}
 use native.Mathlib.Numerals.{add-one}
 use native.Mathlib.Omega.{arith}
@@ -11,12 +11,12 @@ use lib.Seq.{take-take, take-all, getD-take, length-take-le}
 use Rattle.counting.specs.Times.{times}
 use Rattle.counting.specs.Lists.{Tells}
 use Rattle.forest.specs.Forest.{Forest, none, leaf, pre, post, dep, has, count, Once, cat, under, remove, above, part, children, depth}
-use Rattle.forest.specs.Table.{segEnd, indexOf, lastAbove, atDepth, postOf, rebased, depthsFrom, insertAll, cutOut}
+use Rattle.forest.specs.Table.{segEnd, indexOf, lastAbove, lessDeep, atDepth, postOf, rebased, depthsFrom, insertAll, cutOut}
 use Rattle.forest.specs.Walk.{next, prev}
 use Rattle.forest.proofs.Counting.{count-pre}
 use Rattle.forest.proofs.Lists.{middle-take}
 use Rattle.forest.proofs.Whole.{length-dep, pre-cat, dep-cat, dep-low, dep-high, rebased-dep, post-law, children-law}
-use Rattle.forest.proofs.Laws.{place, end, slot-has, place-slot, slot-at, depth-small, segment-deep, there-place, missing-place, depth-at, end-at, end-after, end-within, segment, segment-depths, parent-at, pre-under, dep-under, pre-remove, dep-remove, within-below, below-test}
+use Rattle.forest.proofs.Laws.{place, end, slot-has, place-slot, slot-at, depth-small, segment-deep, there-place, missing-place, depth-at, end-at, end-after, end-within, segment, segment-depths, parent-at, ancestors-at, pre-under, dep-under, pre-remove, dep-remove, within-below, below-test}
 use Rattle.forest.proofs.Shape.{shape-exact, same-forest}
 use Rattle.forest.proofs.Walk.{next-low, next-root, next-last, prev-low, prev-root}
 use Rattle.forest.proofs.Arrays.{take-insertAll, length-insertAll, take-cutOut, length-cutOut}
@@ -108,6 +108,11 @@ module _ {slots depths : List ℕ} {n : ℕ} {f : Forest} (R : Rep slots depths 
     rep-parent a =
         let w : i ≤ n = omega (arith, A .inside) in
         rw (rep-depth, ← take-take i n slots w, ← take-take i n depths w, R .order, R .depth, rep-place) (parent-at p f rep-has a)
+
+    pub rep-ancestors : lessDeep (getD depths i 0) (reverse (take i slots)) (reverse (take i depths)) ≡ above p f
+    rep-ancestors =
+        let w : i ≤ n = omega (arith, A .inside) in
+        rw (rep-depth, ← take-take i n slots w, ← take-take i n depths w, R .order, R .depth, rep-place) (ancestors-at p f rep-has)
 
     -- ---- its neighbours in the walk, or a
     depth-next : i + 1 < n → getD depths (i + 1) 0 ≡ getD (dep 1 f) (place p f + 1) 0

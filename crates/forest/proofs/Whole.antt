@@ -1,15 +1,15 @@
 -- A whole forest's table: the slots in pre-order and their depths.
 use mathlib.Core.Path.{_≡_, refl, sym, ap, _∙_}
-use mathlib.Core.List.{List, [], _∷_, _++_, map, map-append, append-assoc, append-nil}
+use mathlib.Core.List.{List, [], _∷_, _++_, map, map-append, append-assoc, append-nil, reverseAux}
 use Prim.Native.Nat.{ℕ, zero, suc, _+_, _≤_, _<_}
 use native.Mathlib.Nat.{suc-add, zero-add}
 use native.Mathlib.Omega.{arith}
 use lib.ListN.{length, getD, length-append}
 use lib.Seq.{take-at, drop-at}
 use Rattle.forest.specs.Forest.{Forest, none, tree, pre, post, dep, roots, cat, kids, part, children}
-use Rattle.forest.specs.Table.{run, lastAbove, atDepth, postOf, rebased}
+use Rattle.forest.specs.Table.{run, lastAbove, lessDeep, atDepth, postOf, rebased}
 use Rattle.forest.proofs.Counting.{length-post}
-use Rattle.forest.proofs.Lists.{run-more, run-none, run-append, run-higher, last-more, last-append, at-yes, at-no}
+use Rattle.forest.proofs.Lists.{run-more, run-none, run-append, run-higher, last-more, last-append, not-less-deep, turned-append, at-yes, at-no}
 
 -- ---- lengths, and one forest behind another
 pub length-dep : (d : ℕ) (f : Forest) → length (dep d f) ≡ length (pre f)
@@ -47,6 +47,16 @@ last-skip k a d (tree x c s) h =
     ∙ last-append k a (pre c) (dep (suc d) c) (pre s) (dep d s) (sym (length-dep (suc d) c))
     ∙ ap (λ (b : ℕ). lastAbove k b (pre s) (dep d s)) (last-skip k a (suc d) c (omega arith))
     ∙ last-skip k a d s h
+
+-- going back over a forest that is not less deep
+pub back-skip : (k d : ℕ) (f : Forest) (xs ds : List ℕ) → k ≤ d → lessDeep k (reverseAux (pre f) xs) (reverseAux (dep d f) ds) ≡ lessDeep k xs ds
+unfolding pre dep
+back-skip k d none xs ds h = refl
+back-skip k d (tree x c s) xs ds h =
+    rw (turned-append (pre c) (pre s) (x ∷ xs), turned-append (dep (suc d) c) (dep d s) (d ∷ ds))
+    (back-skip k d s (reverseAux (pre c) (x ∷ xs)) (reverseAux (dep (suc d) c) (d ∷ ds)) h
+    ∙ back-skip k (suc d) c (x ∷ xs) (d ∷ ds) (omega arith)
+    ∙ not-less-deep k x d xs ds h)
 
 -- ---- the depths are at least the roots', and at most one more for each slot
 all-append : (P : ℕ → Type 0) (xs ys : List ℕ) → ((j : ℕ) → j < length xs → P (getD xs j 0)) → ((j : ℕ) → j < length ys → P (getD ys j 0))

@@ -26,6 +26,12 @@ lastAbove k a [] ds = a
 lastAbove k a (x ∷ xs) [] = a
 lastAbove k a (x ∷ xs) (d ∷ ds) = lastAbove k (elim (ltb d k) [ true ↦ x | false ↦ a ]) xs ds
 
+-- the slots above a place at the depth d, the parent first: of the slots and depths before it, the nearest first, each that is less deep
+unfoldable pub lessDeep : ℕ → List ℕ → List ℕ → List ℕ
+lessDeep d [] ds = []
+lessDeep d (x ∷ xs) [] = []
+lessDeep d (x ∷ xs) (e ∷ es) = elim (ltb e d) [ true ↦ x ∷ lessDeep e xs es | false ↦ lessDeep d xs es ]
+
 -- the slots at the depth k
 unfoldable pub atDepth : ℕ → List ℕ → List ℕ → List ℕ
 atDepth k [] ds = []

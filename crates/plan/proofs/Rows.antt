@@ -33,17 +33,17 @@ use Rattle.plan.specs.Calls.{Call, lowest, refusal, accepted, step}
 use Rattle.plan.specs.Demand.{run}
 
 -- a whole number, and whole-number values
-pub num : ℕ → Float
+unfoldable pub num : ℕ → Float
 num k = round binary64 false k 1
 
-pub point : ℕ → ℕ → Point
+unfoldable pub point : ℕ → ℕ → Point
 point x y = record { x = num x; y = num y }
 
-pub id : ℕ → ℕ → NodeId
+unfoldable pub id : ℕ → ℕ → NodeId
 id x g = record { 0 = x; 1 = g }
 
 -- bounds 0 to n both ways, with this clip and level, visible and pickable
-pub local : ℕ → Clip → ℤ → LocalNode
+unfoldable pub local : ℕ → Clip → ℤ → LocalNode
 local n c z =
     record {
       «local_bounds» = rect zero zero (num n) (num n);
@@ -54,47 +54,47 @@ local n c z =
       flags = flags 3;
     }
 
-pub ten : LocalNode
+unfoldable pub ten : LocalNode
 ten = local 10 is.None (pos 0)
 
-pub root : Call
+unfoldable pub root : Call
 root = call.insert node.None ten
 
-pub child : NodeId → Call
+unfoldable pub child : NodeId → Call
 child p = call.insert (node.Some p) ten
 
-pub settle : Call
+unfoldable pub settle : Call
 settle = call.commit 2048
 
-pub after : List Call → Plan
+unfoldable pub after : List Call → Plan
 after cs = run step empty cs
 
 -- the id that the next insert hands out
-pub next : List Call → NodeId
+unfoldable pub next : List Call → NodeId
 next cs = newId (after cs)
 
 -- everything that touches 5, 5
-pub listing : List Call → List NodeId
+unfoldable pub listing : List Call → List NodeId
 listing cs = listPoint (after cs) (flags 0) (point 5 5)
 
 -- the ids of the first three nodes
-pub a : NodeId
+unfoldable pub a : NodeId
 a = id 0 1
 
-pub b : NodeId
+unfoldable pub b : NodeId
 b = id 1 1
 
-pub c : NodeId
+unfoldable pub c : NodeId
 c = id 2 1
 
 -- a transform in whole numbers, a shift by (x, y), and one quarter turn with a shift
-pub shifted : ℕ → ℕ → Affine
+unfoldable pub shifted : ℕ → ℕ → Affine
 shifted x y = record { a = one; b = zero; c = zero; d = one; e = num x; f = num y }
 
-pub turn : ℕ → ℕ → Affine
+unfoldable pub turn : ℕ → ℕ → Affine
 turn x y = record { a = zero; b = one; c = neg one; d = zero; e = num x; f = num y }
 
-pub grown : Float → LocalNode
+unfoldable pub grown : Float → LocalNode
 grown s =
     record {
       «local_bounds» = rect zero zero (num 10) (num 10);
@@ -105,13 +105,13 @@ grown s =
       flags = flags 3;
     }
 
-pub needs : List Call → Bool
+unfoldable pub needs : List Call → Bool
 needs cs = needsCommit (after cs)
 
-pub told : List Call → Call → ℕ
+unfoldable pub told : List Call → Call → ℕ
 told cs c = refusal (after cs) c
 
-pub tapped : List Call → Point → Tap
+unfoldable pub tapped : List Call → Point → Tap
 tapped cs pt = tap (after cs) (flags 3) pt
 
 -- ids and slots
@@ -171,7 +171,7 @@ unfolding num point id local ten turn shifted grown root child settle after next
 orders = (refl, refl, refl, refl, refl, refl, refl, refl, refl)
 
 -- taps and listings
-pub places : List Call
+unfoldable pub places : List Call
 places =
     call.insert node.None (local 100 is.None (pos 0))
     ∷ call.insert (node.Some a)
@@ -186,7 +186,7 @@ places =
     ∷ settle
     ∷ []
 
-pub halfClip : List Call
+unfoldable pub halfClip : List Call
 halfClip = call.insert node.None (local 20 (is.Square zero zero (num 10) (num 10)) (pos 0)) ∷ settle ∷ []
 
 pub taps : (worldBounds (after places) 1 ≡ rect (num 80) zero (num 100) (num 40))  -- P6
@@ -209,7 +209,7 @@ unfolding num point id local ten turn shifted grown root child settle after next
 taps = (refl, refl, refl, refl, refl, refl, refl, refl, refl, refl, refl, refl, refl, refl, refl, refl)
 
 -- a withheld parent: place 1 without flags, level 9, above place 2, with a clip 0 to 4
-pub hidden : List Call
+unfoldable pub hidden : List Call
 hidden =
     call.insert node.None (local 10 (is.Square zero zero (num 4) (num 4)) (pos 9)) ∷ child a ∷ settle ∷ call.set-flags a (flags 0) ∷ []
 

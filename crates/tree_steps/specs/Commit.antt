@@ -12,6 +12,7 @@ use Rattle.box_types.specs.Local.{rectToAabb}
 use Rattle.node_tables.specs.Tables.{rectAt, putRect, insetsAt, affineAt, putAffine, ofRect, isThere, putClipRect}
 use Rattle.worlds.specs.declared.Placed.{Placed}
 use Rattle.worlds.specs.World.{atRoot, placed, worldBox, hitBox}
+use Rattle.forest.specs.Table.{lessDeep}
 use Rattle.links.specs.Links.{endOf}
 use Rattle.understory_index.specs.declared.Index.{Index}
 use Rattle.understory_index.specs.Index as index
@@ -30,11 +31,6 @@ abbrev pub commitVerdict : Tree → ℕ → Verdict
 commitVerdict t len = checked (held t) (not (ltb len 2048)) no.ShortRoom
 
 -- ---- the slots above a place, the parent first: going back through the table, each place that is less deep
-
-unfoldable pub lessDeep : ℕ → List ℕ → List ℕ → List ℕ
-lessDeep d [] ds = []
-lessDeep d (x ∷ xs) [] = []
-lessDeep d (x ∷ xs) (e ∷ es) = cond (ltb e d) (x ∷ lessDeep e xs es) (lessDeep d xs es)
 
 unfoldable pub ancestors : Tree → ℕ → List ℕ
 ancestors t i = lessDeep (getD (t .links .depth) i 0) (reverse (take i (t .links .order))) (reverse (take i (t .links .depth)))
