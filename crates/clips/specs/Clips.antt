@@ -1,7 +1,7 @@
 -- Clips (document 01, module 2): none, square, or rounded with four radii, in the order top left, top right, bottom right, bottom
 -- left. A clip is read by its rectangle and its radii: "square means all radii 0". Below, `is.` marks the cases of `Clip`, and `of.` those of
 -- `ClipRect`, a clip's rectangle if there is a clip.
-use mathlib.Core.Bool.{Bool, true, false, _&&_, _||_, cond}
+use mathlib.Core.Bool.{Bool, true, false, not, _&&_, _||_, cond}
 use lib.Ieee.{Float, isNan, lt, le, eq}
 use lib.Ieee.Scale.{finite}
 use Rattle.geometry.specs.declared.point.Point.{Point}
@@ -12,7 +12,7 @@ use Rattle.clips.specs.declared.clip.Clip.the-variants as is
 use Rattle.clips.specs.declared.clip.ClipRect.{ClipRect}
 use Rattle.clips.specs.declared.clip.ClipRect.the-variants as of
 use Rattle.numbers.specs.Rounded.{_⊕_, _⊖_, _⊗_, _⊘_, zero, half, two}
-use Rattle.numbers.specs.Number.{minimum, maximum, magnitude}
+use Rattle.numbers.specs.Number.{minimum, maximum, magnitude, same}
 use Rattle.geometry.specs.Rectangle.{rect, width, height, ordered, rectEq, finiteRect}
 
 -- ---- radii
@@ -129,6 +129,24 @@ finiteClipRect (of.Some r) = finiteRect r
 
 unfoldable pub finiteClip : Clip → Bool
 finiteClip c = finiteClipRect (clipRect c) && all finite (clipRadii c)
+
+-- ---- "clips are as constructed": the constructor leaves the clip as it is, to the bit
+
+abbrev pub sameRect : Rect → Rect → Bool
+sameRect r s = same (r .x0) (s .x0) && same (r .y0) (s .y0) && (same (r .x1) (s .x1) && same (r .y1) (s .y1))
+
+abbrev pub sameRadii : RoundedRectRadii → RoundedRectRadii → Bool
+sameRadii q s =
+    same (q .«top_left») (s .«top_left») && same (q .«top_right») (s .«top_right»)
+    && (same (q .«bottom_right») (s .«bottom_right») && same (q .«bottom_left») (s .«bottom_left»))
+
+unfoldable pub asConstructed : Clip → Bool
+asConstructed is.None = true
+asConstructed (is.Square x0 y0 x1 y1) = let r = rect x0 y0 x1 y1 in sameRect (ordered r) r
+asConstructed (is.Rounded x0 y0 x1 y1 tl tr br bl) =
+    let r = rect x0 y0 x1 y1 in
+    let q = radii tl tr br bl in
+    sameRect (ordered r) r && sameRadii (fitted r q) q && not (all (λ x. eq x zero) q)
 
 -- ---- what laws say of a constructed clip
 

@@ -1,0 +1,348 @@
+-- A turn of each loop, as a law of lists.
+use mathlib.Core.Path.{_≡_, refl, sym, ap, _∙_}
+use mathlib.Core.Bool.{Bool, true, false, _&&_, and-eq-true-iff}
+use mathlib.Core.List.{List, [], _∷_, _++_, map, map-append, append-assoc, append-nil}
+use Prim.Native.Nat.{ℕ, zero, suc, _+_, _-_, _≤_, _<_}
+use native.Mathlib.Numerals.{add-one}
+use native.Mathlib.Nat.{le-of-suc-le-suc, not-suc-le-zero, suc-sub-suc, sub-zero}
+use native.Mathlib.Omega.{arith}
+use borrow.Author.Tests.{lt-ltb, le-ltb, eq-eqb, ne-eqb, le-leb, lt-leb, leb-true}
+use lib.Dec.{ltb, leb}
+use lib.ListN.{length, take, drop, getD, set, length-append, length-drop, length-map, drop-of-length-le, take-append-drop}
+use lib.Seq.{slice-cons, slice-empty, paste, paste-zero, paste-suc, take-paste, drop-paste, drop-append-le, drop-append-add, take-suc, getD-drop, getD-at, set-at, set-split, take-nil, take-append-add, take-suc-set, drop-set-lt, drop-cons, drop-drop, take-at, take-append-le, length-take-le, getD-take}
+use Rattle.forest.specs.Table.{run, segEnd, indexOf, lastAbove, atDepth, postOf, rebased, depthsFrom, insertAll, cutOut}
+use Rattle.links.specs.Links.{part, inFront, shifted}
+
+-- ---- parts of an array
+pub drop-take : (e n : ℕ) (a : List ℕ) → e ≤ n → drop e (take n a) ≡ part e n a
+drop-take zero n a h = rw sub-zero
+drop-take (suc e) zero a h = absurd (not-suc-le-zero h)
+drop-take (suc e) (suc n) [] h = sym (take-nil (suc n - suc e))
+drop-take (suc e) (suc n) (x ∷ a) h = rw suc-sub-suc (drop-take e n a (le-of-suc-le-suc h))
+
+pub length-part : (i j : ℕ) (a : List ℕ) → i ≤ j → j ≤ length a → length (part i j a) ≡ j - i
+length-part i j a h k = length-take-le (j - i) (drop i a) (rw length-drop (omega arith))
+
+pub part-none : (e : ℕ) (a : List ℕ) → part e e a ≡ []
+part-none e a = let z : e - e ≡ 0 = omega arith in rw z
+
+pub part-cons : (i e : ℕ) (a : List ℕ) → i < e → e ≤ length a → part i e a ≡ getD a i 0 ∷ part (i + 1) e a
+part-cons i e a h k =
+    let lt : i < length a = omega arith in
+    let s : e - i ≡ suc (e - suc i) = omega arith in
+    rw (drop-cons a i 0 lt, s, add-one)
+
+-- ---- position
+module _ (x n i : ℕ) (xs : List ℕ) (fits : n ≤ length xs) where
+  pub idx-on : i < n → (getD xs i 0 ≡ x → ⊥) → i + indexOf x (drop i (take n xs)) ≡ (i + 1) + indexOf x (drop (i + 1) (take n xs))
+  unfolding indexOf
+  idx-on h k =
+      let lt : i < length (take n xs) = rw length-take-le h in
+      rw (add-one, drop-cons (take n xs) i 0, indexOf, getD-take, ne-eqb (getD xs i 0) x k) (omega arith)
+
+  pub idx-stop : i < n → getD xs i 0 ≡ x → i + indexOf x (drop i (take n xs)) ≡ i
+  unfolding indexOf
+  idx-stop h k =
+      let lt : i < length (take n xs) = rw length-take-le h in
+      rw (drop-cons (take n xs) i 0, indexOf, getD-take, eq-eqb (getD xs i 0) x k) (omega arith)
+
+  pub idx-end : n ≤ i → i + indexOf x (drop i (take n xs)) ≡ i
+  unfolding indexOf
+  idx-end h =
+      let le : length (take n xs) ≤ i = rw length-take-le h in
+      rw (drop-of-length-le) (omega arith)
+
+-- ---- segment_end
+module _ (d n e : ℕ) (ds : List ℕ) (fits : n ≤ length ds) where
+  pub run-on : e < n → d < getD ds e 0 → e + run d (drop e (take n ds)) ≡ (e + 1) + run d (drop (e + 1) (take n ds))
+  unfolding run
+  run-on h k =
+      let lt : e < length (take n ds) = rw length-take-le h in
+      rw (add-one, drop-cons (take n ds) e 0, run, getD-take, lt-ltb d (getD ds e 0)) (omega arith)
+
+  pub run-stop : e < n → getD ds e 0 ≤ d → e + run d (drop e (take n ds)) ≡ e
+  unfolding run
+  run-stop h k =
+      let lt : e < length (take n ds) = rw length-take-le h in
+      rw (drop-cons (take n ds) e 0, run, getD-take, le-ltb d (getD ds e 0)) (omega arith)
+
+  pub run-end : n ≤ e → e + run d (drop e (take n ds)) ≡ e
+  unfolding run
+  run-end h =
+      let le : length (take n ds) ≤ e = rw length-take-le h in
+      rw (drop-of-length-le) (omega arith)
+
+pub seg-from : (n i : ℕ) (ds : List ℕ) → i < n → segEnd (take n ds) i ≡ i + 1 + run (getD ds i 0) (drop (i + 1) (take n ds))
+unfolding segEnd
+seg-from n i ds h = rw getD-take
+
+-- ---- parent_at
+above-less : (k a x d : ℕ) (xs ds : List ℕ) → d < k → lastAbove k a (x ∷ xs) (d ∷ ds) ≡ lastAbove k x xs ds
+unfolding lastAbove
+above-less k a x d xs ds h = rw (lastAbove, lt-ltb d k h)
+
+above-more : (k a x d : ℕ) (xs ds : List ℕ) → k ≤ d → lastAbove k a (x ∷ xs) (d ∷ ds) ≡ lastAbove k a xs ds
+unfolding lastAbove
+above-more k a x d xs ds h = rw (lastAbove, le-ltb d k h)
+
+above-append : (k a : ℕ) (xs ds ys es : List ℕ) → length xs ≡ length ds → lastAbove k a (xs ++ ys) (ds ++ es) ≡ lastAbove k (lastAbove k a xs ds) ys es
+unfolding lastAbove
+above-append k a [] [] ys es h = refl
+above-append k a [] (d ∷ ds) ys es h = absurd (omega arith)
+above-append k a (x ∷ xs) [] ys es h = absurd (omega arith)
+above-append k a (x ∷ xs) (d ∷ ds) ys es h = above-append k (elim (ltb d k) [ true ↦ x | false ↦ a ]) xs ds ys es (omega arith)
+
+module _ (k a j : ℕ) (xs ds : List ℕ) (pos : 0 < j) (lx : j ≤ length xs) (ld : j ≤ length ds) where
+  last-above : lastAbove k a (take j xs) (take j ds) ≡ lastAbove k (lastAbove k a (take (j - 1) xs) (take (j - 1) ds)) (getD xs (j - 1) 0 ∷ []) (getD ds (j - 1) 0 ∷ [])
+  last-above =
+      let w : j ≡ suc (j - 1) = omega arith in
+      let l : length (take (j - 1) xs) ≡ length (take (j - 1) ds) = length-take-le (j - 1) xs (omega arith) ∙ sym (length-take-le (j - 1) ds (omega arith)) in
+      let u : take j xs ≡ take (j - 1) xs ++ (getD xs (j - 1) 0 ∷ []) = ap (λ (m : ℕ). take m xs) w ∙ take-suc xs (j - 1) 0 (omega arith) in
+      let v : take j ds ≡ take (j - 1) ds ++ (getD ds (j - 1) 0 ∷ []) = ap (λ (m : ℕ). take m ds) w ∙ take-suc ds (j - 1) 0 (omega arith) in
+      rw (u, v) (above-append k a (take (j - 1) xs) (take (j - 1) ds) (getD xs (j - 1) 0 ∷ []) (getD ds (j - 1) 0 ∷ []) l)
+
+  pub parent-stop : getD ds (j - 1) 0 < k → lastAbove k a (take j xs) (take j ds) ≡ getD xs (j - 1) 0
+  unfolding lastAbove
+  parent-stop h = last-above ∙ above-less k (lastAbove k a (take (j - 1) xs) (take (j - 1) ds)) (getD xs (j - 1) 0) (getD ds (j - 1) 0) [] [] h
+
+  pub parent-on : k ≤ getD ds (j - 1) 0 → lastAbove k a (take j xs) (take j ds) ≡ lastAbove k a (take (j - 1) xs) (take (j - 1) ds)
+  unfolding lastAbove
+  parent-on h = last-above ∙ above-more k (lastAbove k a (take (j - 1) xs) (take (j - 1) ds)) (getD xs (j - 1) 0) (getD ds (j - 1) 0) [] [] h
+
+-- ---- children
+level-yes : (k x d : ℕ) (xs ds : List ℕ) → d ≡ k → atDepth k (x ∷ xs) (d ∷ ds) ≡ x ∷ atDepth k xs ds
+unfolding atDepth
+level-yes k x d xs ds e = rw (atDepth, eq-eqb d k e)
+
+level-no : (k x d : ℕ) (xs ds : List ℕ) → (d ≡ k → ⊥) → atDepth k (x ∷ xs) (d ∷ ds) ≡ atDepth k xs ds
+unfolding atDepth
+level-no k x d xs ds e = rw (atDepth, ne-eqb d k e)
+
+module _ (k i e : ℕ) (xs ds : List ℕ) (lx : e ≤ length xs) (ld : e ≤ length ds) (h : i < e) where
+  open-level : atDepth k (part i e xs) (part i e ds) ≡ atDepth k (getD xs i 0 ∷ part (i + 1) e xs) (getD ds i 0 ∷ part (i + 1) e ds)
+  open-level = rw (part-cons i e xs h lx, part-cons i e ds h ld)
+
+  -- the slot goes behind those that are there
+  pub level-put : (out g : List ℕ) (m : ℕ) → m < length out → getD ds i 0 ≡ k → take m out ++ atDepth k (part i e xs) (part i e ds) ≡ g
+      → take (m + 1) (set out m (getD xs i 0)) ++ atDepth k (part (i + 1) e xs) (part (i + 1) e ds) ≡ g
+  level-put out g m l q inv =
+      let w = open-level ∙ level-yes k (getD xs i 0) (getD ds i 0) (part (i + 1) e xs) (part (i + 1) e ds) q in
+      rw (add-one m, take-suc-set out m (getD xs i 0) l) (append-assoc (take m out) (getD xs i 0 ∷ []) (atDepth k (part (i + 1) e xs) (part (i + 1) e ds)) ∙ rw w at inv)
+
+  pub level-pass : (getD ds i 0 ≡ k → ⊥) → atDepth k (part i e xs) (part i e ds) ≡ atDepth k (part (i + 1) e xs) (part (i + 1) e ds)
+  level-pass q = open-level ∙ level-no k (getD xs i 0) (getD ds i 0) (part (i + 1) e xs) (part (i + 1) e ds) q
+
+pub level-rest : (m x : ℕ) (out out₀ : List ℕ) → drop m out ≡ drop m out₀ → drop (m + 1) (set out m x) ≡ drop (m + 1) out₀
+level-rest m x out out₀ inv =
+    let lt : m < m + 1 = omega arith in
+    rw (drop-set-lt (m + 1) out m x lt, ← drop-drop 1 m out, ← drop-drop 1 m out₀, inv)
+
+pub level-end : (k e m : ℕ) (xs ds out out₀ g : List ℕ) → m ≤ length out → take m out ++ atDepth k (part e e xs) (part e e ds) ≡ g → drop m out ≡ drop m out₀
+    → (out ≡ inFront g out₀) × (m ≡ length g)
+unfolding atDepth
+level-end k e m xs ds out out₀ g h is rest =
+    let w : take m out ≡ g = simp (part-none e xs, append-nil) at is in
+    let l : length g ≡ m = rw (← w) (length-take-le m out h) in
+    (sym (take-append-drop m out) ∙ rw (w, rest, l), sym l)
+
+-- ---- depths_ok
+shape-cons : (b d : ℕ) (ds : List ℕ) (s j : Bool) → leb 1 d ≡ s → leb d (suc b) ≡ j → depthsFrom b (d ∷ ds) ≡ (s && j && depthsFrom d ds)
+unfolding depthsFrom
+shape-cons b d ds s j u v = rw (depthsFrom, u, v)
+
+module _ (b n i : ℕ) (ds : List ℕ) (fits : n ≤ length ds) (h : i < n) where
+  open-shape : depthsFrom b (drop i (take n ds)) ≡ depthsFrom b (getD ds i 0 ∷ drop (i + 1) (take n ds))
+  open-shape = rw (add-one, slice-cons i n ds 0 h fits)
+
+  pub shape-zero : getD ds i 0 < 1 → depthsFrom b (drop i (take n ds)) ≡ false
+  shape-zero k = open-shape ∙ shape-cons b (getD ds i 0) (drop (i + 1) (take n ds)) false (leb (getD ds i 0) (suc b)) (lt-leb 1 (getD ds i 0) k) refl
+
+  pub shape-jump : 1 ≤ getD ds i 0 → b + 1 < getD ds i 0 → depthsFrom b (drop i (take n ds)) ≡ false
+  shape-jump k j =
+      open-shape ∙ shape-cons b (getD ds i 0) (drop (i + 1) (take n ds)) true false (le-leb 1 (getD ds i 0) k) (lt-leb (getD ds i 0) (suc b) (omega arith))
+
+  pub shape-on : 1 ≤ getD ds i 0 → getD ds i 0 ≤ b + 1 → depthsFrom b (drop i (take n ds)) ≡ depthsFrom (getD ds i 0) (drop (i + 1) (take n ds))
+  shape-on k j =
+      open-shape ∙ shape-cons b (getD ds i 0) (drop (i + 1) (take n ds)) true true (le-leb 1 (getD ds i 0) k) (le-leb (getD ds i 0) (suc b) (omega arith))
+
+pub shape-end : (b n : ℕ) (ds : List ℕ) → depthsFrom b (drop n (take n ds)) ≡ true
+unfolding depthsFrom
+shape-end b n ds = rw (slice-empty n ds)
+
+-- what the test tells of each depth
+shape-first : (b d : ℕ) (ds : List ℕ) → depthsFrom b (d ∷ ds) ≡ true → (d ≤ suc b) × (depthsFrom d ds ≡ true)
+unfolding depthsFrom
+shape-first b d ds h =
+    let p = and-eq-true-iff (leb 1 d && leb d (suc b)) (depthsFrom d ds) .0 h in
+    (leb-true d (suc b) (and-eq-true-iff (leb 1 d) (leb d (suc b)) .0 (p .0) .1), p .1)
+
+pub depth-small : (b : ℕ) (ds : List ℕ) → depthsFrom b ds ≡ true → (j : ℕ) → getD ds j 0 ≤ b + (j + 1)
+depth-small b [] h j = omega arith
+depth-small b (d ∷ ds) h zero = omega (arith, shape-first b d ds h)
+depth-small b (d ∷ ds) h (suc j) = omega (arith, shape-first b d ds h, depth-small d ds (shape-first b d ds h .1) j)
+
+-- ---- insert_at: the array with one place more, into which the element goes
+pub carry-on : (a : List ℕ) (i x : ℕ) → i < length a → take (i + 1) (set a i x) ++ (getD a i 0 ∷ drop (i + 1) (set a i x)) ≡ take i a ++ (x ∷ drop i a)
+carry-on a i x h = let lt : i < suc i = omega arith in rw (add-one, take-suc-set, drop-set-lt, drop-cons a i 0) (simp append-assoc)
+
+gap : (e n x : ℕ) (a : List ℕ) → e ≤ n → n < length a
+    → take (suc n) (take e a ++ (x ∷ drop e a)) ++ drop (suc (suc n)) (take e a ++ (x ∷ drop e a)) ≡ insertAll n e (x ∷ []) a
+gap e n x a h k =
+    let l = length-take-le e a (omega arith) in
+    let s : suc n ≡ length (take e a) + suc (n - e) = omega arith in
+    let t : suc (suc n) ≡ length (take e a) + suc (suc (n - e)) = omega arith in
+    let u : take (suc n) (take e a ++ (x ∷ drop e a)) ≡ take e a ++ (x ∷ take (n - e) (drop e a)) =
+    ap (λ (m : ℕ). take m (take e a ++ (x ∷ drop e a))) s ∙ take-append-add (take e a) (x ∷ drop e a) (suc (n - e)) in
+    let w : e + suc (n - e) ≡ n + 1 = omega arith in
+    let v : drop (suc (suc n)) (take e a ++ (x ∷ drop e a)) ≡ drop (n + 1) a =
+    ap (λ (m : ℕ). drop m (take e a ++ (x ∷ drop e a))) t ∙ drop-append-add (take e a) (x ∷ drop e a) (suc (suc (n - e))) ∙ drop-drop (suc (n - e)) e a ∙ ap (λ (m : ℕ). drop m a) w in
+    rw (u, v) (append-assoc (take e a) (x ∷ take (n - e) (drop e a)) (drop (n + 1) a))
+
+pub carry-end : (a a₀ : List ℕ) (n e c x : ℕ) → e ≤ n → n < length a → n < length a₀ → take n a ++ (c ∷ drop n a) ≡ take e a₀ ++ (x ∷ drop e a₀) → set a n c ≡ insertAll n e (x ∷ []) a₀
+carry-end a a₀ n e c x h k m inv =
+    let z : n - n ≡ 0 = omega arith in
+    let w : insertAll n n (c ∷ []) a ≡ take n a ++ (c ∷ drop (suc n) a) = rw (z, add-one) in
+    set-split a n c k
+    ∙ sym w
+    ∙ sym (gap n n c a (omega arith) k)
+    ∙ ap (λ (g : List ℕ). take (suc n) g ++ drop (suc (suc n)) g) inv
+    ∙ gap e n x a₀ h m
+
+-- ---- copy_over
+pub copy-on : (d : List ℕ) (at : ℕ) (s : List ℕ) (from j : ℕ) → at + j < length d → from + j < length s
+    → set (paste d at (drop from s) j) (at + j) (getD s (from + j) 0) ≡ paste d at (drop from s) (j + 1)
+copy-on d at s from j h k =
+    let lt : j < length (drop from s) = rw length-drop (omega arith) in
+    rw (← getD-drop from s j 0, add-one) (paste-suc d at (drop from s) j 0 h lt)
+
+-- ---- insert_all: the elements over those at e, then what stood from e on, behind them
+pub inserted-all : (n e k from : ℕ) (a s a1 a2 : List ℕ) → e ≤ n → n + k ≤ length a → from + k ≤ length s
+    → a1 ≡ paste a e (drop from s) k → a2 ≡ paste a1 (e + k) (drop e a) (n - e) → a2 ≡ insertAll n e (take k (drop from s)) a
+inserted-all n e k from a s a1 a2 h nk fk is1 is2 =
+    let Y = take k (drop from s) in
+    let kd : k ≤ length (drop from s) = rw length-drop (omega arith) in
+    let l : length (take k (drop from s)) ≡ k = length-take-le k (drop from s) kd in
+    let t1 : take (e + k) a1 ≡ take e a ++ take k (drop from s) = rw is1 (take-paste a e (drop from s) k (omega arith) kd) in
+    let d1 : drop (e + k) a1 ≡ drop (e + k) a = rw is1 (drop-paste a e (drop from s) k (omega arith) kd) in
+    let w : e + k + (n - e) ≡ n + k = omega arith in
+    let t2 : drop (e + k + (n - e)) a1 ≡ drop (n + k) a = sym (drop-drop (n - e) (e + k) a1) ∙ ap (drop (n - e)) d1 ∙ drop-drop (n - e) (e + k) a ∙ ap (λ (m : ℕ). drop m a) w in
+    is2 ∙ rw (t1, t2, l) (simp append-assoc)
+
+-- ---- cut_out: as copy_over, within one array
+paste-above : (d : List ℕ) (at : ℕ) (s : List ℕ) (k m : ℕ) → at ≤ length d → k ≤ length s → at + k ≤ m → getD (paste d at s k) m 0 ≡ getD d m 0
+paste-above d at s k m h l b =
+    let w : at + k + (m - (at + k)) ≡ m = omega arith in
+    ap (λ (p : ℕ). getD (paste d at s k) p 0) (sym w)
+    ∙ sym (getD-drop (at + k) (paste d at s k) (m - (at + k)) 0)
+    ∙ ap (λ (p : List ℕ). getD p (m - (at + k)) 0) (drop-paste d at s k h l)
+    ∙ getD-drop (at + k) d (m - (at + k)) 0
+    ∙ ap (λ (p : ℕ). getD d p 0) w
+
+close-on : (a : List ℕ) (i j t : ℕ) → i ≤ j → j + t < length a
+    → set (paste a i (drop j a) t) (i + t) (getD (paste a i (drop j a) t) (j + t) 0) ≡ paste a i (drop j a) (t + 1)
+close-on a i j t h k =
+    let l : t ≤ length (drop j a) = rw length-drop (omega arith) in
+    rw (paste-above a i (drop j a) t (j + t) (omega arith) l (omega arith)) (copy-on a i a j t (omega arith) k)
+
+pub close-turn : (a₀ a : List ℕ) (i j to from : ℕ) → i ≤ j → j ≤ from → from < length a₀ → to ≡ i + (from - j) → a ≡ paste a₀ i (drop j a₀) (from - j)
+    → set a to (getD a from 0) ≡ paste a₀ i (drop j a₀) (from + 1 - j)
+close-turn a₀ a i j to from h k l is inv =
+    let w : j + (from - j) ≡ from = omega arith in
+    let v : from + 1 - j ≡ from - j + 1 = omega arith in
+    rw (is, v, inv) (rw w at (close-on a₀ i j (from - j) h (omega arith)))
+
+pub close-none : (a : List ℕ) (i j : ℕ) → a ≡ paste a i (drop j a) (j - j)
+close-none a i j = let z : j - j ≡ 0 = omega arith in rw z (paste-zero a i (drop j a))
+
+pub close-end : (a : List ℕ) (n i j : ℕ) → paste a i (drop j a) (n - j) ≡ cutOut n i j a
+close-end a n i j = append-assoc (take i a) (take (n - j) (drop j a)) (drop (i + (n - j)) a)
+
+-- ---- shift
+part-snoc : (i j : ℕ) (a : List ℕ) → i ≤ j → j < length a → part i (j + 1) a ≡ part i j a ++ (getD a j 0 ∷ [])
+part-snoc i j a h k =
+    let w : j + 1 - i ≡ suc (j - i) = omega arith in
+    let v : i + (j - i) ≡ j = omega arith in
+    let l : j - i < length (drop i a) = rw length-drop (omega arith) in
+    let u : getD (drop i a) (j - i) 0 ≡ getD a j 0 = getD-drop i a (j - i) 0 ∙ ap (λ (p : ℕ). getD a p 0) v in
+    rw (w, take-suc (drop i a) (j - i) 0 l, u)
+
+module _ (from i was is : ℕ) (a : List ℕ) (h : from ≤ i) (k : i < length a) where
+  passed : length (take from a ++ map (rebased was is) (part from i a)) ≡ i
+  passed =
+      length-append (take from a) (map (rebased was is) (part from i a))
+      ∙ omega (arith, length-take-le from a (omega arith), length-map (part from i a) (rebased was is), length-part from i a h (omega arith))
+
+  grouped : (j : ℕ) → shifted from j was is a ≡ (take from a ++ map (rebased was is) (part from j a)) ++ drop j a
+  grouped j = sym (append-assoc (take from a) (map (rebased was is) (part from j a)) (drop j a))
+
+  pub shifted-at : getD (shifted from i was is a) i 0 ≡ getD a i 0
+  shifted-at =
+      ap (λ (p : List ℕ). getD p i 0) (grouped i)
+      ∙ rw (drop-cons a i 0 k) (getD-at (take from a ++ map (rebased was is) (part from i a)) (getD a i 0) (drop (suc i) a) 0 i passed)
+
+  pub shifted-on : set (shifted from i was is a) i (rebased was is (getD a i 0)) ≡ shifted from (i + 1) was is a
+  shifted-on =
+      ap (λ (p : List ℕ). set p i (rebased was is (getD a i 0))) (grouped i)
+      ∙ rw (
+        drop-cons a i 0 k,
+        set-at (take from a ++ map (rebased was is) (part from i a)) (getD a i 0) (drop (suc i) a) (rebased was is (getD a i 0)) i passed,
+        part-snoc from i a h k,
+        add-one,
+      )
+      (simp (map-append, append-assoc))
+
+pub shifted-none : (from was is : ℕ) (a : List ℕ) → a ≡ shifted from from was is a
+shifted-none from was is a = sym (rw (part-none from a) (take-append-drop from a))
+
+-- ---- post_order
+pub run-short : (d : ℕ) (ds : List ℕ) → run d ds ≤ length ds
+unfolding run
+run-short d [] = omega arith
+run-short d (x ∷ ds) = go (ltb d x) (run-short d ds)
+  where
+    go : (b : Bool) → run d ds ≤ length ds → elim b [ true ↦ suc (run d ds) | false ↦ 0 ] ≤ suc (length ds)
+    go true h = omega arith
+    go false h = omega arith
+
+pub length-post : (xs ds : List ℕ) → length xs ≡ length ds → length (postOf xs ds) ≡ length xs
+unfolding postOf
+length-post [] ds h = refl
+length-post (x ∷ xs) [] h = absurd (omega arith)
+length-post (x ∷ xs) (d ∷ ds) h =
+    let l = length-post xs ds (omega arith) in
+    let r : run d ds ≤ length (postOf xs ds) = omega (arith, run-short d ds) in
+    length-append (take (run d ds) (postOf xs ds)) (x ∷ drop (run d ds) (postOf xs ds))
+    ∙ omega (arith, length-take-le (run d ds) (postOf xs ds) r, length-drop (run d ds) (postOf xs ds))
+
+inserted-front : (p out : List ℕ) (m r x : ℕ) → length p ≡ m → r ≤ m → insertAll m r (x ∷ []) (inFront p out) ≡ inFront (take r p ++ (x ∷ drop r p)) out
+inserted-front p out m r x l h =
+    let rl : r ≤ length p = omega arith in
+    let t1 : take r (inFront p out) ≡ take r p = take-append-le r p (drop (length p) out) rl in
+    let t2 : take (m - r) (drop r (inFront p out)) ≡ drop r p =
+    rw (drop-append-le r p (drop (length p) out) rl) (take-at (drop r p) (drop (length p) out) (m - r) (rw length-drop (omega arith))) in
+    let w : m + 1 ≡ length p + 1 = omega arith in
+    let t3 : drop (m + 1) (inFront p out) ≡ drop (m + 1) out =
+    ap (λ (k : ℕ). drop k (inFront p out)) w ∙ drop-append-add p (drop (length p) out) 1 ∙ drop-drop 1 (length p) out ∙ ap (λ (k : ℕ). drop k out) (sym w) in
+    let ln : length (take r p ++ (x ∷ drop r p)) ≡ m + 1 =
+    length-append (take r p) (x ∷ drop r p) ∙ omega (arith, length-take-le r p rl, length-drop r p) in
+    rw (t1, t2, t3, ln) (simp append-assoc)
+
+module _ (e i q : ℕ) (xs ds out : List ℕ) (pos : 0 < i) (le : i ≤ e) (lx : e ≤ length xs) (ld : e ≤ length ds)
+    (is : q ≡ segEnd (take e ds) (i - 1)) (within : q ≤ e) where
+  pub post-turn : insertAll (e - i) (q - (i - 1) - 1) (getD xs (i - 1) 0 ∷ []) (inFront (postOf (part i e xs) (part i e ds)) out)
+      ≡ inFront (postOf (part (i - 1) e xs) (part (i - 1) e ds)) out
+  unfolding postOf segEnd
+  post-turn =
+      let v : i - 1 + 1 ≡ i = omega arith in
+      let lt : i - 1 < e = omega arith in
+      let r = run (getD ds (i - 1) 0) (part i e ds) in
+      let w : q - (i - 1) - 1 ≡ run (getD ds (i - 1) 0) (part i e ds) =
+      ap (λ (k : ℕ). k - (i - 1) - 1) is ∙ rw (getD-take e ds (i - 1) 0 lt, v, drop-take i e ds le) (omega arith) in
+      let lp : length (postOf (part i e xs) (part i e ds)) ≡ e - i =
+      length-post (part i e xs) (part i e ds) (length-part i e xs le lx ∙ sym (length-part i e ds le ld)) ∙ length-part i e xs le lx in
+      rw (part-cons (i - 1) e xs lt lx, part-cons (i - 1) e ds lt ld, v, w)
+      (inserted-front (postOf (part i e xs) (part i e ds)) out (e - i) (run (getD ds (i - 1) 0) (part i e ds)) (getD xs (i - 1) 0) lp (omega (arith, w)))
+
+pub post-none : (e : ℕ) (xs ds out : List ℕ) → out ≡ inFront (postOf (part e e xs) (part e e ds)) out
+unfolding postOf
+post-none e xs ds out = rw (part-none e xs)

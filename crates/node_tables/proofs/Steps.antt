@@ -1,0 +1,16 @@
+-- the code's p + 4 and the stores' suc (suc (suc (suc p))), as `cells` has them up to 3
+use mathlib.Core.Path.{_≡_}
+use Prim.Native.Nat.{ℕ, suc, _+_}
+use native.Mathlib.Omega.{arith}
+
+pub plus-4 : (p : ℕ) → p + 4 ≡ suc (suc (suc (suc p)))
+plus-4 p = omega arith
+
+pub plus-5 : (p : ℕ) → p + 5 ≡ suc (suc (suc (suc (suc p))))
+plus-5 p = omega arith
+
+pub plus-6 : (p : ℕ) → p + 6 ≡ suc (suc (suc (suc (suc (suc p)))))
+plus-6 p = omega arith
+
+pub plus-7 : (p : ℕ) → p + 7 ≡ suc (suc (suc (suc (suc (suc (suc p))))))
+plus-7 p = omega arith

@@ -1,0 +1,206 @@
+-- Every call, by its name and arguments, of lent room the length in numbers; its refusal on the plan and what it leaves of the plan.
+use Prim.Native.Nat.{ℕ, zero, suc}
+use mathlib.Core.Bool.{Bool, true, false, not, _&&_, cond}
+use mathlib.Core.List.{List, [], _∷_}
+use lib.Dec.{ltb}
+use lib.IntN.{ℤ}
+use Rattle.geometry.specs.declared.point.Point.{Point}
+use Rattle.geometry.specs.declared.rect.Rect.{Rect}
+use Rattle.geometry.specs.declared.insets.Insets.{Insets}
+use Rattle.geometry.specs.Rectangle.{rectEq, insetsEq, finiteRect, finiteInsets}
+use Rattle.transforms.specs.declared.affine.Affine.{Affine}
+use Rattle.transforms.specs.Transform.{affineEq, finiteAffine}
+use Rattle.clips.specs.declared.clip.Clip.{Clip}
+use Rattle.clips.specs.Clips.{constructed, clipEq, finiteClip}
+use Rattle.boxes.specs.declared.NodeId.{NodeId}
+use Rattle.box_types.specs.declared.NodeFlags.{NodeFlags}
+use Rattle.box_types.specs.declared.LocalNode.{LocalNode}
+use Rattle.box_types.specs.declared.OptionNodeId.{OptionNodeId}
+use Rattle.box_types.specs.declared.OptionNodeId.the-variants as node
+use Rattle.box_types.specs.Local.{known, finiteLocal}
+use Rattle.plan.specs.Plan.{Plan, Mark, live, parentLive, atOrBelow, full, needsCommit, newId, inserted, removed, moved, setUnless, withLocal, markAlone, markTransform, markClip}
+use Rattle.plan.specs.Visits.{committed}
+
+pub data Request : Type 0 where
+  hit-test-point : Point → Request
+  intersect-rect : Rect → Request
+  containing-point : Point → Request
+
+pub data Reading : Type 0 where
+  needs-commit : Reading
+  is-alive : NodeId → Reading
+  local-transform : NodeId → Reading
+  local-clip : NodeId → Reading
+  local-bounds : NodeId → Reading
+  hit-slop : NodeId → Reading
+  z-index : NodeId → Reading
+  flags : NodeId → Reading
+  parent-of : NodeId → Reading
+  children-of : NodeId → ℕ → Reading
+  next-depth-first : NodeId → Reading
+  prev-depth-first : NodeId → Reading
+  world-transform : NodeId → Reading
+  world-bounds : NodeId → Reading
+  world-hit-bounds : NodeId → Reading
+
+pub data Call : Type 0 where
+  insert : OptionNodeId → LocalNode → Call
+  remove : NodeId → Call
+  reparent : NodeId → OptionNodeId → Call
+  set-local-transform : NodeId → Affine → Call
+  set-local-clip : NodeId → Clip → Call
+  set-local-bounds : NodeId → Rect → Call
+  set-hit-slop : NodeId → Insets → Call
+  set-z-index : NodeId → ℤ → Call
+  set-flags : NodeId → NodeFlags → Call
+  commit : ℕ → Call
+  read : Reading → Call
+  request : Request → NodeFlags → ℕ → Call  -- with the flags it asks for and its room
+
+-- ---- "The lowest number that applies is given": of the conditions in a row, the number of the first that fails, or 0
+
+infixr 20 _else_then_
+pub data Conditions : Type 0 where
+  accept : Conditions
+  _else_then_ : Bool → ℕ → Conditions → Conditions
+
+unfoldable pub lowest : Conditions → ℕ
+lowest accept = 0
+lowest (holds else n then rest) = cond holds (lowest rest) n
+
+-- 8: under 512 rectangles of four numbers, under 256 ids of two
+abbrev pub roomForRects : ℕ → Bool
+roomForRects len = not (ltb len 2048)
+
+abbrev pub roomForIds : ℕ → Bool
+roomForIds len = not (ltb len 512)
+
+abbrev pub conditionsOfRequest : Plan → NodeFlags → ℕ → Conditions
+conditionsOfRequest p asked len = known asked else 6 then not (needsCommit p) else 7 then roomForIds len else 8 then accept
+
+abbrev pub ofNode : Plan → NodeId → Conditions
+ofNode p i = live p i else 2 then accept
+
+abbrev pub ofWorld : Plan → NodeId → Conditions
+ofWorld p i = live p i else 2 then not (needsCommit p) else 7 then accept
+
+abbrev pub conditionsOfReading : Plan → Reading → Conditions
+conditionsOfReading p needs-commit = accept
+conditionsOfReading p (is-alive i) = accept
+conditionsOfReading p (local-transform i) = ofNode p i
+conditionsOfReading p (local-clip i) = ofNode p i
+conditionsOfReading p (local-bounds i) = ofNode p i
+conditionsOfReading p (hit-slop i) = ofNode p i
+conditionsOfReading p (z-index i) = ofNode p i
+conditionsOfReading p (flags i) = ofNode p i
+conditionsOfReading p (parent-of i) = ofNode p i
+conditionsOfReading p (children-of i len) = live p i else 2 then roomForIds len else 8 then accept
+conditionsOfReading p (next-depth-first i) = ofNode p i
+conditionsOfReading p (prev-depth-first i) = ofNode p i
+conditionsOfReading p (world-transform i) = ofWorld p i
+conditionsOfReading p (world-bounds i) = ofWorld p i
+conditionsOfReading p (world-hit-bounds i) = ofWorld p i
+
+abbrev pub conditions : Plan → Call → Conditions
+conditions p (insert parent v) =
+    parentLive p parent else 3 then finiteLocal v else 5 then known (v .flags) else 6 then not (full p) else 9 then accept
+conditions p (remove i) = ofNode p i
+conditions p (reparent i parent) =
+    live p i else 2 then parentLive p parent else 3 then not (atOrBelow p (i .0) parent) else 4 then accept
+conditions p (set-local-transform i t) = live p i else 2 then finiteAffine t else 5 then accept
+conditions p (set-local-clip i c) = live p i else 2 then finiteClip c else 5 then accept
+conditions p (set-local-bounds i r) = live p i else 2 then finiteRect r else 5 then accept
+conditions p (set-hit-slop i s) = live p i else 2 then finiteInsets s else 5 then accept
+conditions p (set-z-index i z) = ofNode p i
+conditions p (set-flags i f) = live p i else 2 then known f else 6 then accept
+conditions p (commit len) = roomForRects len else 8 then accept
+conditions p (read r) = conditionsOfReading p r
+conditions p (request q asked len) = conditionsOfRequest p asked len
+
+unfoldable pub refusal : Plan → Call → ℕ
+refusal p c = lowest (conditions p c)
+
+-- ---- one field of a local record
+
+abbrev pub withTransform : Affine → LocalNode → LocalNode
+withTransform t v =
+    record { «local_bounds» = v .«local_bounds»; «hit_slop» = v .«hit_slop»; «local_transform» = t; «local_clip» = v .«local_clip»; «z_index» = v .«z_index»; flags = v .flags }
+
+abbrev pub withClip : Clip → LocalNode → LocalNode
+withClip c v =
+    record { «local_bounds» = v .«local_bounds»; «hit_slop» = v .«hit_slop»; «local_transform» = v .«local_transform»; «local_clip» = c; «z_index» = v .«z_index»; flags = v .flags }
+
+abbrev pub withBounds : Rect → LocalNode → LocalNode
+withBounds r v =
+    record { «local_bounds» = r; «hit_slop» = v .«hit_slop»; «local_transform» = v .«local_transform»; «local_clip» = v .«local_clip»; «z_index» = v .«z_index»; flags = v .flags }
+
+abbrev pub withSlop : Insets → LocalNode → LocalNode
+withSlop s v =
+    record { «local_bounds» = v .«local_bounds»; «hit_slop» = s; «local_transform» = v .«local_transform»; «local_clip» = v .«local_clip»; «z_index» = v .«z_index»; flags = v .flags }
+
+abbrev pub withLevel : ℤ → LocalNode → LocalNode
+withLevel z v =
+    record { «local_bounds» = v .«local_bounds»; «hit_slop» = v .«hit_slop»; «local_transform» = v .«local_transform»; «local_clip» = v .«local_clip»; «z_index» = z; flags = v .flags }
+
+abbrev pub withFlags : NodeFlags → LocalNode → LocalNode
+withFlags f v =
+    record { «local_bounds» = v .«local_bounds»; «hit_slop» = v .«hit_slop»; «local_transform» = v .«local_transform»; «local_clip» = v .«local_clip»; «z_index» = v .«z_index»; flags = f }
+
+-- ---- what an accepted call leaves: readings and requests change nothing
+
+unfoldable pub accepted : Plan → Call → Plan
+accepted p (insert parent v) = inserted p parent v
+accepted p (remove i) = removed p (i .0)
+accepted p (reparent i parent) = moved p (i .0) parent
+accepted p (set-local-transform i t) =
+    let v = p .local (i .0) in
+    setUnless (affineEq (v .«local_transform») t) p (i .0) (withTransform t v) markTransform
+accepted p (set-local-clip i c) =
+    let v = p .local (i .0) in
+    setUnless (clipEq (v .«local_clip») (constructed c)) p (i .0) (withClip (constructed c) v) markClip
+accepted p (set-local-bounds i r) =
+    let v = p .local (i .0) in
+    setUnless (rectEq (v .«local_bounds») r) p (i .0) (withBounds r v) markAlone
+accepted p (set-hit-slop i s) =
+    let v = p .local (i .0) in
+    setUnless (insetsEq (v .«hit_slop») s) p (i .0) (withSlop s v) markAlone
+accepted p (set-z-index i z) = withLocal p (i .0) (withLevel z (p .local (i .0))) (p .mark (i .0))
+accepted p (set-flags i f) = withLocal p (i .0) (withFlags f (p .local (i .0))) (p .mark (i .0))
+accepted p (commit len) = committed p
+accepted p (read r) = p
+accepted p (request q asked len) = p
+
+-- "refused calls .. change nothing"
+abbrev pub stepIf : ℕ → Plan → Call → Plan
+stepIf zero p c = accepted p c
+stepIf (suc n) p c = p
+
+unfoldable pub step : Plan → Call → Plan
+step p c = stepIf (refusal p c) p c
+
+-- the id that an accepted insert hands out
+abbrev pub handed : Plan → Call → OptionNodeId
+handed p (insert parent v) = node.Some (newId p)
+handed p (remove i) = node.None
+handed p (reparent i parent) = node.None
+handed p (set-local-transform i t) = node.None
+handed p (set-local-clip i c) = node.None
+handed p (set-local-bounds i r) = node.None
+handed p (set-hit-slop i s) = node.None
+handed p (set-z-index i z) = node.None
+handed p (set-flags i f) = node.None
+handed p (commit len) = node.None
+handed p (read r) = node.None
+handed p (request q asked len) = node.None
+
+abbrev pub handedIf : ℕ → Plan → Call → OptionNodeId
+handedIf zero p c = handed p c
+handedIf (suc n) p c = node.None
+
+-- a call's outcome: its refusal, or 0, and the id it hands out
+pub record Outcome : Type 0 where
+  pub refused : ℕ
+  pub id : OptionNodeId
+
+unfoldable pub outcome : Plan → Call → Outcome
+outcome p c = record { refused = refusal p c; id = handedIf (refusal p c) p c }

@@ -1,0 +1,4 @@
+pub mod Setters
+pub mod Structure
+pub mod Commit
+pub mod Requests
