@@ -1,10 +1,9 @@
 -- Equality to the bit: the test is exact on all floats, and on those of the format it is that of the bits.
 use mathlib.Core.Path.{_≡_, refl, sym, ap, _∙_}
 use mathlib.Core.Bool.{Bool, true, false, not, _&&_, Bool·beq}
-use Prim.Native.Nat.{ℕ}
 use native.Mathlib.Omega.{arith}
 use borrow.Author.Tests.{eq-eqb, eqb-true, leb-true, le-leb}
-use lib.Dec.{T, eqb, leb}
+use lib.Dec.{T, eqb}
 use lib.IntN.{ℤ, pos, negsuc}
 use lib.Signed.{leZ}
 use lib.Ieee.{Float, nan, inf, fin, binary64, isNan, ne, fits, ofBits, toBits}
