@@ -51,7 +51,7 @@ unfolding fitted shaped eq
 square-again r C = rw (fit-zero (cap r) C)
 
 module _ (r : Rect) (q : RoundedRectRadii) where
-  shaped-cases : {A : Type 0} → (shaped r q ≡ square r → A) → (shaped r q ≡ rounded r q → all (λ x. eq x const.zero) q ≡ false → A) → A
+  pub shaped-cases : {A : Type 0} → (shaped r q ≡ square r → A) → (shaped r q ≡ rounded r q → all (λ x. eq x const.zero) q ≡ false → A) → A
   unfolding shaped
   shaped-cases f g =
       split (all (λ x. eq x const.zero) q)

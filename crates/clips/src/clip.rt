@@ -1,11 +1,12 @@
 // Clips, kurbo's rounded_rect.rs: where the box tree has an Option<RoundedRect>, a clip is none, square, or rounded.
 ghost use mathlib.Core.Path.{_≡_};
-ghost use Rattle.clips.specs.Clips.{excess, insideRounded, inside, shaped, constructed, clipRect, clipRadii, clipRectEq, clipEq, finiteClipRect, finiteClip};
+ghost use Rattle.clips.specs.Clips.{excess, insideRounded, inside, shaped, constructed, clipRect, clipRadii, clipRectEq, clipEq, finiteClipRect, finiteClip, sameRect, sameRadii, asConstructed};
 use crate::radii::RoundedRectRadii;
 use geometry::point::Point;
 use geometry::rect::Rect;
 use numbers::abs;
 use numbers::max;
+use numbers::same;
 
 pub enum Clip {
     None,
@@ -75,6 +76,21 @@ fn winding(r: Rect, q: RoundedRectRadii, p: Point) -> bool
     let px = excess(dx, r.width(), radius);
     let py = excess(dy, r.height(), radius);
     px * px + py * py <= radius * radius
+}
+
+// Equality to the bit.
+fn same_rect(r: Rect, s: Rect) -> bool
+    ensures { λ b. ⌜ b ≡ sameRect r s ⌝ }
+{
+    same(r.x0, s.x0) & same(r.y0, s.y0) & (same(r.x1, s.x1) & same(r.y1, s.y1))
+}
+
+fn same_radii(q: RoundedRectRadii, s: RoundedRectRadii) -> bool
+    ensures { λ b. ⌜ b ≡ sameRadii q s ⌝ }
+{
+    same(q.top_left, s.top_left)
+        & same(q.top_right, s.top_right)
+        & (same(q.bottom_right, s.bottom_right) & same(q.bottom_left, s.bottom_left))
 }
 
 impl ClipRect {
@@ -188,5 +204,36 @@ impl Clip {
         ensures { λ b. ⌜ b ≡ finiteClip self ⌝ }
     {
         self.rect().is_finite() & self.radii().is_finite()
+    }
+    // The constructor leaves it as it is, to the bit.
+    pub fn is_constructed(self) -> bool
+        ensures { λ b. ⌜ b ≡ asConstructed self ⌝ }
+    {
+        match self {
+            Clip::None => true,
+            Clip::Square { x0, y0, x1, y1 } => {
+                let r = Rect { x0, y0, x1, y1 };
+                same_rect(r.abs(), r)
+            }
+            Clip::Rounded {
+                x0,
+                y0,
+                x1,
+                y1,
+                top_left,
+                top_right,
+                bottom_right,
+                bottom_left,
+            } => {
+                let r = Rect { x0, y0, x1, y1 };
+                let q = RoundedRectRadii {
+                    top_left,
+                    top_right,
+                    bottom_right,
+                    bottom_left,
+                };
+                same_rect(r.abs(), r) & same_radii(q.fit(r), q) & !q.is_zero()
+            }
+        }
     }
 }

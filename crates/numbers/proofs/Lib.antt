@@ -3,3 +3,4 @@ pub mod Numbers
 pub mod Order
 pub mod Signs
 pub mod Placed
+pub mod Bitwise

@@ -1,7 +1,7 @@
 // f64: minimum, maximum, absolute value and finiteness, as kurbo takes them from the standard library of Rust.
 ghost use mathlib.Core.Path.{_≡_};
 ghost use lib.Ieee.Scale.{finite};
-ghost use Rattle.numbers.specs.Number.{minimum, maximum, magnitude};
+ghost use Rattle.numbers.specs.Number.{minimum, maximum, magnitude, same};
 
 // f64::min: one NaN gives the other operand, equal operands give the first.
 pub fn min(x: f64, y: f64) -> f64
@@ -39,4 +39,17 @@ pub fn is_finite(x: f64) -> bool
 {
     let top = 1.0 / 0.0;
     (-top < x) & (x < top)
+}
+
+// Equality to the bit: a zero's sign counts, and a NaN is the same as a NaN.
+pub fn same(x: f64, y: f64) -> bool
+    ensures { λ r. ⌜ r ≡ same x y ⌝ }
+{
+    if x != x {
+        return y != y;
+    }
+    if y != y {
+        return false;
+    }
+    f64::to_bits(x) == f64::to_bits(y)
 }

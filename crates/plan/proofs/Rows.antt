@@ -216,7 +216,16 @@ hidden =
 pub redaction : (tap (redact (flags 3) (after hidden)) (flags 3) (point 3 3) ≡ hit b (a ∷ b ∷ []))
     × (tap (redact (flags 3) (after hidden)) (flags 3) (point 5 5) ≡ nothing)
     × (tap (redact (flags 0) (after hidden)) (flags 0) (point 3 3) ≡ hit a (a ∷ []))
-    × (worldBounds (redact (flags 3) (after hidden)) 0 ≡ rect zero zero zero zero)
+    × (redact (flags 3) (after hidden) .local 0
+    ≡ record {
+      «local_bounds» = rect zero zero zero zero;
+      «hit_slop» = noInset;
+      «local_transform» = identity;
+      «local_clip» = is.Square zero zero (num 4) (num 4);
+      «z_index» = pos 0;
+      flags = flags 0;
+    })
+    × (redact (flags 1) (after hidden) .local 1 ≡ ten)
     × (worldBounds (redact (flags 3) (after hidden)) 1 ≡ rect zero zero (num 4) (num 4))  -- its clip still counts
 unfolding num point id local ten turn shifted grown root child settle after next listing needs told tapped a b c run step refusal lowest accepted inserted removed moved committed needsCommit starts visits enter keep any joined upTo insertSorted sorted pre post has cat under remove roots spot hasAll finiteLocal stored finiteRect finiteInsets finiteAffine finiteClip finiteClipRect affineEq rectEq insetsEq clipEq clipRectEq constructed clipRect clipRadii fitted shaped quadrant excess insideRounded inside ordered intersection contains plusInsets noInsets mapped product inverse transformRectBbox containsPoint overlaps image meetOwn meet clipped placed worldBox hitBox reached placedOn worldBounds worldHitBounds inClips candidate larger largest tap meetsRect meetsPoint inEntryOrder listRect listPoint redactLocal redact minimum maximum magnitude round units odd size span climb neg add sub mul div eq le lt isNan hidden
-redaction = (refl, refl, refl, refl, refl)
+redaction = (refl, refl, refl, refl, refl, refl)

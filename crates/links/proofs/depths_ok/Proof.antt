@@ -28,7 +28,7 @@ returns c = let L = c .before .before .before .loop in
     let A = c .before .before .before .before .args in
     let D = A .depth .now in
     let len : length D ≡ 256 = search needs in
-    sym (L .inv .3 ∙ shape-zero (L .b) (A .n) (L .i) D (omega arith) (omega arith) (c .if1 .taken))
+    sym (L .inv .3 ∙ shape-zero (L .b) (A .n) (L .i) D (omega arith) (omega arith) (omega arith))
 
 add-if2 : tie.Need-add-if2 Inv-loop μ-loop
 add-if2 c = search needs
@@ -38,7 +38,7 @@ returns-2 c = let L = c .before .before .before .before .loop in
     let A = c .before .before .before .before .before .args in
     let D = A .depth .now in
     let len : length D ≡ 256 = search needs in
-    sym (L .inv .3 ∙ shape-jump (L .b) (A .n) (L .i) D (omega arith) (omega arith) (omega arith) (c .if2 .taken))
+    sym (L .inv .3 ∙ shape-jump (L .b) (A .n) (L .i) D (omega arith) (omega arith) (omega arith) (omega arith))
 
 add-i : tie.Need-add-i Inv-loop μ-loop
 add-i c = search needs
@@ -51,7 +51,7 @@ loop-again c = let L = c .before .before .before .before .loop in
     let A = c .before .before .before .before .before .args in
     let D = A .depth .now in
     let len : length D ≡ 256 = search needs in
-    (omega arith, omega arith, omega arith, L .inv .3 ∙ shape-on (L .b) (A .n) (L .i) D (omega arith) (omega arith) (omega arith) (c .if2 .left))
+    (omega arith, omega arith, omega arith, L .inv .3 ∙ shape-on (L .b) (A .n) (L .i) D (omega arith) (omega arith) (omega arith) (omega arith))
 
 returns-3 : tie.Need-returns-3 Inv-loop μ-loop
 returns-3 c = let L = c .before .loop in

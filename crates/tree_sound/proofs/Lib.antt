@@ -1,0 +1,4 @@
+pub mod Walks
+pub mod Counts
+pub mod Whole
+pub mod Exact
