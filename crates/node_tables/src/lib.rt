@@ -9,6 +9,7 @@ use geometry::insets::Insets;
 use geometry::rect::Rect;
 use transforms::affine::Affine;
 
+// Inner: the tables hold 256.
 pub fn rect_at(a: &[f64; 1024], i: usize) -> Rect
     requires { ⌜ i < 256 ⌝ }
     ensures { λ r. ⌜ r ≡ spec.rectAt (now (a .entry)) i ⌝ }
@@ -22,6 +23,7 @@ pub fn rect_at(a: &[f64; 1024], i: usize) -> Rect
     }
 }
 
+// Inner: the tables hold 256.
 pub fn put_rect(a: &mut [f64; 1024], i: usize, r: Rect)
     requires { ⌜ i < 256 ⌝ }
     ensures { λ _. ⌜ now (a .exit) ≡ spec.putRect (now (a .entry)) i r ⌝ }
@@ -33,6 +35,7 @@ pub fn put_rect(a: &mut [f64; 1024], i: usize, r: Rect)
     a[p + 3] = r.y1;
 }
 
+// Inner: the tables hold 256.
 pub fn insets_at(a: &[f64; 1024], i: usize) -> Insets
     requires { ⌜ i < 256 ⌝ }
     ensures { λ r. ⌜ r ≡ spec.insetsAt (now (a .entry)) i ⌝ }
@@ -46,6 +49,7 @@ pub fn insets_at(a: &[f64; 1024], i: usize) -> Insets
     }
 }
 
+// Inner: the tables hold 256.
 pub fn put_insets(a: &mut [f64; 1024], i: usize, s: Insets)
     requires { ⌜ i < 256 ⌝ }
     ensures { λ _. ⌜ now (a .exit) ≡ spec.putInsets (now (a .entry)) i s ⌝ }
@@ -57,6 +61,7 @@ pub fn put_insets(a: &mut [f64; 1024], i: usize, s: Insets)
     a[p + 3] = s.y1;
 }
 
+// Inner: the tables hold 256.
 pub fn affine_at(a: &[f64; 1536], i: usize) -> Affine
     requires { ⌜ i < 256 ⌝ }
     ensures { λ r. ⌜ r ≡ spec.affineAt (now (a .entry)) i ⌝ }
@@ -72,6 +77,7 @@ pub fn affine_at(a: &[f64; 1536], i: usize) -> Affine
     }
 }
 
+// Inner: the tables hold 256.
 pub fn put_affine(a: &mut [f64; 1536], i: usize, t: Affine)
     requires { ⌜ i < 256 ⌝ }
     ensures { λ _. ⌜ now (a .exit) ≡ spec.putAffine (now (a .entry)) i t ⌝ }
@@ -85,7 +91,7 @@ pub fn put_affine(a: &mut [f64; 1536], i: usize, t: Affine)
     a[p + 5] = t.f;
 }
 
-// The clip of this kind from eight numbers in a row: 0 none, 1 square, any other rounded.
+// Inner: the clip of this kind from eight numbers in a row: 0 none, 1 square, any other rounded.
 pub fn clip_at(kind: u8, a: &[f64; 2048], i: usize) -> Clip
     requires { ⌜ i < 256 ⌝ }
     ensures { λ c. ⌜ c ≡ spec.clipAt kind (now (a .entry)) i ⌝ }
@@ -133,7 +139,7 @@ pub fn clip_kind(c: Clip) -> u8
     }
 }
 
-// The eight numbers of a clip: edges and radii, 0 where its kind has none.
+// Inner: the eight numbers of a clip: edges and radii, 0 where its kind has none.
 pub fn put_clip(a: &mut [f64; 2048], i: usize, c: Clip)
     requires { ⌜ i < 256 ⌝ }
     ensures { λ _. ⌜ now (a .exit) ≡ spec.putClip (now (a .entry)) i c ⌝ }
@@ -165,7 +171,7 @@ fn clip_edges(c: Clip) -> Rect
     }
 }
 
-// A world clip: there if the flag says so.
+// Inner: a world clip, there if the flag says so.
 pub fn clip_rect_at(there: bool, a: &[f64; 1024], i: usize) -> ClipRect
     requires { ⌜ i < 256 ⌝ }
     ensures { λ c. ⌜ c ≡ spec.clipRectAt there (now (a .entry)) i ⌝ }
@@ -185,7 +191,7 @@ pub fn has_clip_rect(c: ClipRect) -> bool
     }
 }
 
-// The rectangle, where there is one.
+// Inner: the rectangle, where there is one.
 pub fn put_clip_rect(a: &mut [f64; 1024], i: usize, c: ClipRect)
     requires { ⌜ i < 256 ⌝ }
     ensures { λ _. ⌜ now (a .exit) ≡ spec.putClipRect (now (a .entry)) i c ⌝ }

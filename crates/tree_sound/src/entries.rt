@@ -27,7 +27,7 @@ fn owned_right<'a>(
     (live[x] > 0) & (committed[x] & (slot[x] == k))
 }
 
-// All 512 entries.
+// Inner: all 512 entries.
 pub fn entries_right<'a>(
     live: &'a [u8; 256],
     committed: &'a [bool; 256],
@@ -70,7 +70,7 @@ pub fn count_removed(mark: &[u8; 512]) -> usize
     count
 }
 
-// How many live nodes are committed.
+// Inner: how many live nodes are committed.
 pub fn count_committed<'a>(order: &'a [u32; 256], n: usize, committed: &'a [bool; 256]) -> usize
     requires { ⌜ (n ≤ 256) × (length (now order) ≡ 256) × Low (now order) n ⌝ }
     ensures { λ r. ⌜ (r ≤ 256) × (r ≡ countOf (λ x. getD (now (committed .entry)) x false) (take n (now (order .entry)))) ⌝ }

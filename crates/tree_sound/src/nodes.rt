@@ -37,6 +37,7 @@ fn value_right<'a>(
         & ((flags[x] < 8) & c.is_constructed())
 }
 
+// Inner: each has values that pass 5 and 6, and its clip is as constructed.
 pub fn values_right<'a>(
     order: &'a [u32; 256],
     n: usize,
@@ -60,7 +61,7 @@ pub fn values_right<'a>(
     ok
 }
 
-// Each that counts as changed has a mark.
+// Inner: each that counts as changed has a mark.
 pub fn marks_right<'a>(
     order: &'a [u32; 256],
     n: usize,
@@ -99,7 +100,7 @@ fn owner_right<'a>(
     (mark[k] == 1) & ((generation[k] == key.1) & ((id.0 == node.0) & (id.1 == node.1)))
 }
 
-// Each committed one owns its entry.
+// Inner: each committed one owns its entry.
 pub fn owners_right<'a>(
     order: &'a [u32; 256],
     n: usize,
@@ -149,7 +150,7 @@ fn new_node_right<'a>(
     b.eq(empty) & (h.eq(empty) & (transform[x] & clip[x]))
 }
 
-// Each uncommitted one is new.
+// Inner: each uncommitted one is new.
 pub fn new_right<'a>(
     order: &'a [u32; 256],
     n: usize,

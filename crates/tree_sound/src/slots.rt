@@ -63,7 +63,7 @@ fn shares_right<'a>(live: &'a [u8; 256], free: &'a [u8; 256], used: usize) -> bo
     ok
 }
 
-// The whole test, and the live slots counted.
+// Inner: the whole test, and the live slots counted.
 pub fn count_slots<'a>(
     order: &'a [u32; 256],
     n: usize,
