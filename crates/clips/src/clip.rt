@@ -156,7 +156,7 @@ impl Clip {
                 bottom_left,
             } => {
                 RoundedRectRadii {
-                    top_left,
+                    top_left, // and clockwise
                     top_right,
                     bottom_right,
                     bottom_left,
