@@ -167,8 +167,9 @@ pub orders : (listing (root ∷ root ∷ call.remove a ∷ root ∷ settle ∷ [
     ≡ 0 ∷ 1 ∷ 2 ∷ [])  -- the climb goes past a mark that changed only bounds
     × (visits (after (root ∷ child a ∷ settle ∷ call.set-local-clip a (is.Square zero zero one one) ∷ [])) ≡ 0 ∷ 1 ∷ [])  -- a clip counts as a transform does
     × (visits (after (root ∷ child a ∷ settle ∷ call.set-local-bounds a (rect zero zero one one) ∷ [])) ≡ 0 ∷ [])
+    × (visits (after (root ∷ child a ∷ settle ∷ call.set-local-bounds a (rect zero zero one one) ∷ call.set-local-bounds b (rect zero zero one one) ∷ [])) ≡ 0 ∷ 1 ∷ [])  -- such a mark covers nobody
 unfolding num point id local ten turn shifted grown root child settle after next listing needs told tapped a b c run step refusal lowest accepted inserted removed moved committed needsCommit starts visits enter keep any joined upTo insertSorted sorted pre post has cat under remove roots spot hasAll finiteLocal stored finiteRect finiteInsets finiteAffine finiteClip finiteClipRect affineEq rectEq insetsEq clipEq clipRectEq constructed clipRect clipRadii fitted shaped quadrant excess insideRounded inside ordered intersection contains plusInsets noInsets mapped product inverse transformRectBbox containsPoint overlaps image meetOwn meet clipped placed worldBox hitBox reached placedOn worldBounds worldHitBounds inClips candidate larger largest tap meetsRect meetsPoint inEntryOrder listRect listPoint redactLocal redact minimum maximum magnitude round units odd size span climb neg add sub mul div eq le lt isNan
-orders = (refl, refl, refl, refl, refl, refl, refl, refl, refl)
+orders = (refl, refl, refl, refl, refl, refl, refl, refl, refl, refl)
 
 -- taps and listings
 unfoldable pub places : List Call
