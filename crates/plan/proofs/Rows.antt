@@ -136,8 +136,9 @@ pub needed : (needs (root ∷ []) ≡ true)
     × (needs (root ∷ settle ∷ call.set-local-transform a (shifted 1 0) ∷ call.set-local-transform a identity ∷ []) ≡ true)  -- set and set back
     × (needs (root ∷ settle ∷ call.set-local-bounds a (rect (neg zero) zero (num 10) (num 10)) ∷ []) ≡ false)  -- −0 over +0
     × (needs (root ∷ call.commit 2047 ∷ []) ≡ true)  -- a refused commit
+    × (needs (root ∷ settle ∷ call.reparent a node.None ∷ []) ≡ true)  -- a root moved to no parent is moved
 unfolding num point id local ten turn shifted grown root child settle after next listing needs told tapped a b c run step refusal lowest accepted inserted removed moved committed needsCommit starts visits enter keep any joined upTo insertSorted sorted pre post has cat under remove roots spot hasAll finiteLocal stored finiteRect finiteInsets finiteAffine finiteClip finiteClipRect affineEq rectEq insetsEq clipEq clipRectEq constructed clipRect clipRadii fitted shaped quadrant excess insideRounded inside ordered intersection contains plusInsets noInsets mapped product inverse transformRectBbox containsPoint overlaps image meetOwn meet clipped placed worldBox hitBox reached placedOn worldBounds worldHitBounds inClips candidate larger largest tap meetsRect meetsPoint inEntryOrder listRect listPoint redactLocal redact minimum maximum magnitude round units odd size span climb neg add sub mul div eq le lt isNan
-needed = (refl, refl, refl, refl, refl, refl, refl, refl)
+needed = (refl, refl, refl, refl, refl, refl, refl, refl, refl)
 
 -- the lowest number that applies
 pub refusals : (told [] (call.insert (node.Some a) (grown (round binary64 false 1 0))) ≡ 3)
@@ -168,8 +169,9 @@ pub orders : (listing (root ∷ root ∷ call.remove a ∷ root ∷ settle ∷ [
     × (visits (after (root ∷ child a ∷ settle ∷ call.set-local-clip a (is.Square zero zero one one) ∷ [])) ≡ 0 ∷ 1 ∷ [])  -- a clip counts as a transform does
     × (visits (after (root ∷ child a ∷ settle ∷ call.set-local-bounds a (rect zero zero one one) ∷ [])) ≡ 0 ∷ [])
     × (visits (after (root ∷ child a ∷ settle ∷ call.set-local-bounds a (rect zero zero one one) ∷ call.set-local-bounds b (rect zero zero one one) ∷ [])) ≡ 0 ∷ 1 ∷ [])  -- such a mark covers nobody
+    × (visits (after (root ∷ root ∷ child b ∷ settle ∷ call.reparent b (node.Some a) ∷ [])) ≡ 1 ∷ 2 ∷ [])  -- a moved node counts as changed
 unfolding num point id local ten turn shifted grown root child settle after next listing needs told tapped a b c run step refusal lowest accepted inserted removed moved committed needsCommit starts visits enter keep any joined upTo insertSorted sorted pre post has cat under remove roots spot hasAll finiteLocal stored finiteRect finiteInsets finiteAffine finiteClip finiteClipRect affineEq rectEq insetsEq clipEq clipRectEq constructed clipRect clipRadii fitted shaped quadrant excess insideRounded inside ordered intersection contains plusInsets noInsets mapped product inverse transformRectBbox containsPoint overlaps image meetOwn meet clipped placed worldBox hitBox reached placedOn worldBounds worldHitBounds inClips candidate larger largest tap meetsRect meetsPoint inEntryOrder listRect listPoint redactLocal redact minimum maximum magnitude round units odd size span climb neg add sub mul div eq le lt isNan
-orders = (refl, refl, refl, refl, refl, refl, refl, refl, refl, refl)
+orders = (refl, refl, refl, refl, refl, refl, refl, refl, refl, refl, refl)
 
 -- taps and listings
 unfoldable pub places : List Call
