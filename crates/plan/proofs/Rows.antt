@@ -4,7 +4,7 @@ use mathlib.Core.Path.{_≡_, refl}
 use mathlib.Core.Bool.{Bool, true, false}
 use mathlib.Core.List.{List, [], _∷_, _++_}
 use lib.IntN.{ℤ, pos, negsuc}
-use lib.Ieee.{Float, binary64, round, units, odd, size, span, climb, neg, add, sub, mul, div, eq, le, lt, isNan}
+use lib.Ieee.{Float, nan, binary64, round, units, odd, size, span, climb, neg, add, sub, mul, div, eq, le, lt, isNan}
 use Rattle.numbers.specs.Rounded.{zero, one}
 use Rattle.numbers.specs.Number.{minimum, maximum, magnitude}
 use Rattle.geometry.specs.declared.point.Point.{Point}
@@ -141,7 +141,7 @@ unfolding num point id local ten turn shifted grown root child settle after next
 needed = (refl, refl, refl, refl, refl, refl, refl, refl, refl)
 
 -- the lowest number that applies
-pub refusals : (told [] (call.insert (node.Some a) (grown (round binary64 false 1 0))) ≡ 3)
+pub refusals : (told [] (call.insert (node.Some a) (grown nan)) ≡ 3)
     × (told [] (call.commit 2047) ≡ 8)
     × (told (root ∷ []) (call.read (call.world-bounds b)) ≡ 2)
     × (told (root ∷ []) (call.read (call.world-bounds a)) ≡ 7)
