@@ -96,7 +96,7 @@ kids p f = spot p [] f .kids
 abbrev pub above : ℕ → Forest → List ℕ
 above p f = spot p [] f .above
 
--- the node with what is below it
+-- the node with what is below it; asked only of a slot that is there
 abbrev pub part : ℕ → Forest → Forest
 part p f = tree p (kids p f) none
 

@@ -58,8 +58,8 @@ candidate p asked pt x =
 
 -- ---- "The largest (level, depth, generation, index) wins"
 
-abbrev pub same : ℤ → ℤ → Bool
-same a b = leZ a b && leZ b a
+abbrev pub sameLevel : ℤ → ℤ → Bool
+sameLevel a b = leZ a b && leZ b a
 
 unfoldable pub larger : Plan → ℕ → ℕ → Bool
 larger p x y =
@@ -70,7 +70,7 @@ larger p x y =
     let generationX = p .slots .generation x in
     let generationY = p .slots .generation y in
     ltZ levelY levelX
-    || (same levelX levelY
+    || (sameLevel levelX levelY
     && (ltb depthY depthX || (eqb depthX depthY && (ltb generationY generationX || (eqb generationX generationY && ltb y x)))))
 
 pub data Hit : Type 0 where

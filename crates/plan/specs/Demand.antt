@@ -42,7 +42,7 @@ answerIf (suc n) p asked q = refused (suc n)
 unfoldable pub answer : Plan → NodeFlags → ℕ → Request → Answer
 answer p asked len q = answerIf (lowest (conditionsOfRequest p asked len)) p asked q
 
-pub record Demand3 (Tree : Type 0) (fresh : Tree) (step : Tree → Call → Tree) (outcome : Tree → Call → Outcome) (request : Tree → NodeFlags → ℕ → Request → Answer) (calls : List Call) : Type 0 where
-  pub alike : outcomes step outcome fresh calls ≡ outcomes call.step call.outcome empty calls
-  pub answered : (asked : NodeFlags) (len : ℕ) (q : Request)
-      → request (run step fresh calls) asked len q ≡ answer (redact asked (run call.step empty calls)) asked len q
+pub record Demand3 (Tree : Type 0) (fresh : Tree) (step : Tree → Call → Tree) (outcome : Tree → Call → Outcome) (answers : Tree → NodeFlags → ℕ → Request → Answer) : Type 0 where
+  pub alike : (calls : List Call) → outcomes step outcome fresh calls ≡ outcomes call.step call.outcome empty calls
+  pub answered : (calls : List Call) (asked : NodeFlags) (len : ℕ) (q : Request)
+      → answers (run step fresh calls) asked len q ≡ answer (redact asked (run call.step empty calls)) asked len q

@@ -1,6 +1,6 @@
 -- Document 01's plain plan: "It keeps links (children in order), slots with generations, local records, live nodes' marks with what counts
 -- as changed, entry numbers, the entries marked removed in their order, and both free lists." Of a dead node's local record, mark and
--- entry nothing is ever read.
+-- entry nothing is ever read; insert writes all three anew.
 use Prim.Native.Nat.{ℕ, zero, suc, _+_}
 use mathlib.Core.Bool.{Bool, true, false, not, _&&_, _||_, cond}
 use mathlib.Core.List.{List, [], _∷_, _++_, reverse}
@@ -95,7 +95,8 @@ isEmpty : List ℕ → Bool
 isEmpty [] = true
 isEmpty (x ∷ xs) = false
 
--- "nothing but a mark, a removed entry or a pending rectangle calls for a commit": a pending rectangle is a removed entry's
+-- "nothing but a mark, a removed entry or a pending rectangle calls for a commit": the plan keeps no rectangles, since a removal leaves a
+-- pending one only where it also marks an entry removed
 unfoldable pub needsCommit : Plan → Bool
 unfolding isEmpty
 needsCommit p = any (λ x. p .mark x .marked) (nodes p) || not (isEmpty (p .entries .removed))

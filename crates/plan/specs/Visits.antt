@@ -7,7 +7,7 @@ use Rattle.forest.specs.Forest.{pre, above, part}
 use Rattle.plan.specs.Lists.{put, keep, any, joined, sorted}
 use Rattle.plan.specs.Plan.{Plan, Mark, Entry, without, number, Entries, nodes, noMark, withEntry, slotFrom, freeAfter, usedAfter}
 
--- changed in transform or clip, and marked: "each node that counts as changed has a mark"
+-- a marked node whose transform or clip changed
 abbrev pub countsAsChanged : Plan → ℕ → Bool
 countsAsChanged p x = p .mark x .marked && (p .mark x .transform || p .mark x .clip)
 

@@ -1,4 +1,5 @@
--- Document 01's "Sound tree", in its words and order.
+-- Document 01's "Sound tree", in its words and order. Stored values are those of live nodes; that any mark, removed entry or pending rectangle
+-- means a commit is needed holds by the definition of `needsCommit`.
 use Prim.Native.Nat.{ℕ, zero, suc, _+_, _≤_, _<_}
 use mathlib.Core.Path.{_≡_}
 use mathlib.Core.Bool.{Bool, true, false, not, _&&_, _||_, cond}

@@ -162,7 +162,7 @@ entryMark t k = getD (t .index .mark) k 0
 abbrev pub isRemoved : ℕ → Bool
 isRemoved m = leb 4 m
 
--- one of the first n passes the test; how many of them do
+-- one of the first n passes the test
 unfoldable pub some : ℕ → (ℕ → Bool) → Bool
 some zero p = false
 some (suc n) p = some n p || p n
