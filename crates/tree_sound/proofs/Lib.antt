@@ -2,3 +2,4 @@ pub mod Walks
 pub mod Counts
 pub mod Whole
 pub mod Exact
+pub mod Examples
