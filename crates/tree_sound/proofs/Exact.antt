@@ -28,6 +28,7 @@ use Rattle.tree_state.specs.declared.Tree.{Tree}
 use Rattle.tree_state.specs.Tree as tree
 use Rattle.tree_state.specs.Tree.{liveSlots, isLive, localAt, clipOf, markedAt, transformChangedAt, clipChangedAt, committedAt, keyAt, storedBounds, storedHitBounds, entryMark, isRemoved}
 use Rattle.tree_state.specs.Sound.{Live, Owns, Uncommitted, SoundTree, everyOf, slotsRight, valuesRight, marksRight, sameId, ownsRight, newRight, nodeRight, ownerOf, ownedRight, entryRight, countsRight, soundTree, removedEntries, committedNodes}
+use Rattle.tree_sound.specs.Parts.{Sized}
 use Rattle.tree_sound.proofs.Walks.{live-by}
 
 -- ---- more of the kit
@@ -203,15 +204,6 @@ module _ (t : Tree) where
 
 -- ---- the tree
 
--- the tables that soundness goes by list through have their lengths
-pub record Sized (t : Tree) : Type 0 where
-  pub order : length (t .links .order) ≡ 256
-  pub depth : length (t .links .depth) ≡ 256
-  pub free : length (t .slots .free) ≡ 256
-  pub mark : length (t .index .mark) ≡ 512
-  pub entries-free : length (t .index .free) ≡ 512
-  pub dirty : length (t .index .dirty) ≡ 512
-
 module _ (t : Tree) (s : Sized t) where
   abbrev Table : Type 0
   Table = (f : Forest) × (pre f ≡ liveSlots t) × (dep 1 f ≡ take (t .links .count) (t .links .depth))
@@ -225,13 +217,13 @@ module _ (t : Tree) (s : Sized t) where
       × (((k : ℕ) → k < 512 → EntryOf t k) × ((t .pending .count ≤ removedEntries t) × (removedEntries t + committedNodes t ≤ 256))))))
 
   module _ (fits : t .links .count ≤ 256) where
-    live-is : (x : ℕ) → isLive t x ≡ ltb 0 (times x (liveSlots t))
+    pub live-is : (x : ℕ) → isLive t x ≡ ltb 0 (times x (liveSlots t))
     live-is x = let e = s .order in live-by x (t .links .order) (t .links .count) (omega arith)
 
-    listed : (x : ℕ) → Live t x → 1 ≤ times x (liveSlots t)
+    pub listed : (x : ℕ) → Live t x → 1 ≤ times x (liveSlots t)
     listed x h = omega (arith, ltb-true 0 (times x (liveSlots t)) (sym (live-is x) ∙ h))
 
-    live : (x : ℕ) → 1 ≤ times x (liveSlots t) → Live t x
+    pub live : (x : ℕ) → 1 ≤ times x (liveSlots t) → Live t x
     live x h = live-is x ∙ lt-ltb 0 (times x (liveSlots t)) (omega arith)
 
   gather : Parts → SoundTree t
@@ -311,3 +303,11 @@ module _ (t : Tree) (s : Sized t) where
       (index.decides (X .mark) (X .free) (X .frees) (X .dirty) (X .queued) (X .used) (s .mark) (s .entries-free) (s .dirty))
       (both (everyOf (nodeRight t) (liveSlots t)) _ (every-of-tells (nodeRight t) (NodeOf t) (node-tells t) (liveSlots t))
       (both (every 512 (entryRight t)) _ (every-tells 512 (entryRight t) (EntryOf t) (entry-tells t)) (counts-tells t))))))
+
+  -- a live slot is one of the tables'
+  pub live-low : SoundTree t → (x : ℕ) → Live t x → x < 256
+  live-low S x h =
+      elim (decLt x (t .slots .used)) [
+        | yes l ↦ omega (arith, S .used-fits)
+        | no g ↦ absurd (omega (arith, listed (S .count-fits) x h, S .beyond x (omega arith)))
+      ]

@@ -1,9 +1,11 @@
--- The parts of `soundTree` over the tables that a function is lent, and what such functions require of the slots in pre-order.
+-- The parts of `soundTree` over the tables that a function is lent, what such functions require of the slots in pre-order, and the lengths of a
+-- tree's tables.
+use mathlib.Core.Path.{_≡_}
 use Prim.Native.Nat.{ℕ, _<_}
 use mathlib.Core.Bool.{Bool, false, not, _&&_, _||_, cond}
 use mathlib.Core.List.{List}
 use lib.Dec.{eqb, ltb, leb}
-use lib.ListN.{getD}
+use lib.ListN.{length, getD}
 use lib.Ieee.{Float}
 use Rattle.geometry.specs.Rectangle.{rectEq, finiteRect, finiteInsets}
 use Rattle.transforms.specs.Transform.{finiteAffine}
@@ -13,6 +15,7 @@ use Rattle.boxes.specs.declared.Key.{Key}
 use Rattle.cells.specs.Cells.{idAt}
 use Rattle.box_types.specs.Local.{emptyRect}
 use Rattle.node_tables.specs.Tables.{rectAt, insetsAt, affineAt, clipAt}
+use Rattle.tree_state.specs.declared.Tree.{Tree}
 use Rattle.tree_state.specs.Sound.{sameId}
 
 -- the first n are slots of the tables
@@ -48,3 +51,13 @@ ownedAt live committed slot x k = ltb 0 (getD live x 0) && (getD committed x fal
 unfoldable pub entryAt : List ℕ → List Bool → List ℕ → List ℕ → List ℕ → ℕ → Bool
 entryAt live committed slot mark payload k =
     eqb (getD mark k 0) 0 || leb 4 (getD mark k 0) || (eqb (getD mark k 0) 1 && ownedAt live committed slot (idAt payload k .0) k)
+
+-- ---- the lengths of the tables that "Sound tree" goes through, as their types have them
+
+pub record Sized (t : Tree) : Type 0 where
+  pub order : length (t .links .order) ≡ 256
+  pub depth : length (t .links .depth) ≡ 256
+  pub free : length (t .slots .free) ≡ 256
+  pub mark : length (t .index .mark) ≡ 512
+  pub entries-free : length (t .index .free) ≡ 512
+  pub dirty : length (t .index .dirty) ≡ 512
