@@ -9,7 +9,7 @@ use Rattle.boxes.specs.Boxes.{aabb, least, greatest, union}
 use Rattle.cells.specs.Cells.{ofBox, boxAt}
 use Rattle.index_damage.specs.declared.Joined.{Joined}
 use Rattle.index_damage.specs.declared.Joined.the-variants as is
-use Rattle.index_damage.specs.Damage.{withBox, joinAll, boxesIn, movesIn, unionOf}
+use Rattle.index_damage.specs.Damage.{withBox, joinAll, boxesIn, movesIn, unionOf, joinedNumber}
 
 -- a box of no numbers, and boxes of one number
 pub blank : Aabb2D
@@ -40,5 +40,7 @@ pub rows : (unionOf [] 0 [] 0 [] [] 0 ≡ is.None)  -- no damage, no union
     × (unionOf [] 0 [] 0 (ofBox blank) (ofBox (spot low)) 1 ≡ is.Some blank)  -- then the moves, the old box before the new
     × (unionOf [] 0 [] 0 (ofBox (spot low)) (ofBox blank) 1 ≡ is.Some (spot low))
     × (unionOf [] 0 [] 0 (ofBox (spot low) ++ ofBox (spot (nought true))) (ofBox (spot (nought false)) ++ ofBox (spot high)) 2 ≡ is.Some (aabb (nought false) (nought false) high high))  -- pair by pair: +0 comes before −0
-unfolding blank spot low high nought all unionOf joinAll withBox boxesIn movesIn boxAt union least greatest lt
-rows = (refl, refl, refl, refl, refl, refl, refl, refl, refl)
+    × (unionOf (ofBox (spot low) ++ ofBox (spot high)) 1 (ofBox (spot high)) 0 (ofBox (spot high)) (ofBox (spot high)) 0 ≡ is.Some (spot low))  -- no more boxes than are counted
+    × (joinedNumber is.ShortRoom ≡ 8)
+unfolding blank spot low high nought all unionOf joinAll withBox boxesIn movesIn joinedNumber boxAt union least greatest lt
+rows = (refl, refl, refl, refl, refl, refl, refl, refl, refl, refl, refl)

@@ -42,3 +42,9 @@ unfoldable pub unionOf : List Float → ℕ → List Float → ℕ → List Floa
 unionOf added a removed r old new m =
     cond (short (length added) a (length removed) r (length old) (length new) m) is.ShortRoom
     (joinAll (joinAll (joinAll is.None (boxesIn added a)) (boxesIn removed r)) (movesIn old new m))
+
+-- the number that the answer gives: 0 for a union or none, and document 01's 8 where a room is shorter than its count says
+unfoldable pub joinedNumber : Joined → ℕ
+joinedNumber is.None = 0
+joinedNumber (is.Some b) = 0
+joinedNumber is.ShortRoom = 8

@@ -116,10 +116,11 @@ pub odd-boxes : (found (insert (flat nan) none ∷ settle ∷ update first (flat
     × (rectSlots (done (insert (aabb (num 10) (num 10) zero zero) none ∷ settle ∷ [])) (aabb (num 0) (num 0) (num 11) (num 11)) ≡ 0 ∷ [])  -- boxes as given: it meets the rectangle
     × (pointSlots (done (insert (aabb (num 10) (num 10) zero zero) none ∷ settle ∷ [])) (num 5) (num 5) ≡ [])  -- and contains no point
     × (rectSlots (done (add 10 ∷ settle ∷ [])) (aabb (num 20) (num 20) (num 5) (num 5)) ≡ [])  -- a rectangle as given
-    × (pointSlots (done (add 10 ∷ settle ∷ [])) (num 11) (num 10) ≡ 0 ∷ [])  -- every edge is in
+    × (pointSlots (done (add 10 ∷ settle ∷ [])) (num 11) (num 10) ≡ 0 ∷ [])  -- a high and a low edge are in
+    × (pointSlots (done (add 10 ∷ settle ∷ [])) (num 10) (num 11) ≡ 0 ∷ [])  -- and the other two
     × (pointSlots (done (add 10 ∷ settle ∷ [])) nan (num 10) ≡ [])
 unfolding num box node add settle first done damage found next answerNumber entries freshIndex run after insertCall updateCall removeCall clearCall commitCall workOf rectSlots slots soundOf onceBelow every times nextGeneration queueWith lengthWith markOf previousAt slotFor usedFor generationFor actOf boxBefore movedFrom movedTo workStep work boxAt putBox idAt putId aabbEq overlaps round units odd size span climb eq le lt flat minus-zero none pointSlots containsPoint
-odd-boxes = (refl, refl, refl, refl, refl, refl, refl, refl)
+odd-boxes = (refl, refl, refl, refl, refl, refl, refl, refl, refl)
 
 -- Hand-made indexes. Of slot 0 its own box is 10, its previous box 20, and the box in the backend 30: soundness says nothing of boxes. It is
 -- the only one that is queued, if any is.
@@ -153,7 +154,8 @@ past queued = hand (set (replicate 512 0) 0 1) 1 1 queued
 pub brim : Index
 brim = hand (set (replicate 512 1) 0 4) 0 512 1
 
--- sound by the definition, although no call makes them: document 01's "Sound index" lets an empty and an unmarked slot stand in the queue
+-- sound by the definition, although no call makes these very values: document 01's "Sound index" lets an empty and an unmarked slot stand in
+-- the queue
 pub hand-sound : (soundIndex (vacant 1) ≡ true) × (soundIndex (plain 1) ≡ true) × (soundIndex (past 0) ≡ true) × (soundIndex (past 1) ≡ true) × (soundIndex brim ≡ true)
 unfolding num box hand vacant plain past brim soundOf onceBelow every times putBox round units odd size span climb
 hand-sound = (refl, refl, refl, refl, refl)
@@ -179,6 +181,63 @@ pub hand-made : (damage (vacant 1) ≡ [] ∷ [] ∷ [] ∷ [] ∷ [])  -- a que
     × (insertCall (after brim settle) (box 40) none .answer ≡ inserts.Key (keyOf 0 2))
 unfolding num box node add settle first done damage found next answerNumber entries freshIndex run after insertCall updateCall removeCall clearCall commitCall workOf rectSlots slots soundOf onceBelow every times nextGeneration queueWith lengthWith markOf previousAt slotFor usedFor generationFor actOf boxBefore movedFrom movedTo workStep work boxAt putBox idAt putId aabbEq overlaps round units odd size span climb eq le lt none hand vacant plain past brim insertedNumber numberOf
 hand-made = (refl, refl, refl, refl, refl, refl, refl, refl, refl, refl, refl, refl, refl, refl, refl, refl, refl, refl, refl)
+
+-- what the rows above leave open: removed twice, a previous box after its commit, slots in order, keys of a slot that is used again
+pub further : (found (add 40 ∷ settle ∷ remove first ∷ remove first ∷ []) ≡ [] ∷ (box 40 ∷ []) ∷ [] ∷ [] ∷ [])  -- removed twice is removed
+    × (live (done (add 40 ∷ settle ∷ remove first ∷ remove first ∷ settle ∷ [])) first ≡ false)
+    × (found (add 10 ∷ settle ∷ update first (box 20) ∷ settle ∷ remove first ∷ []) ≡ [] ∷ (box 20 ∷ []) ∷ [] ∷ [] ∷ [])  -- a commit forgets the previous box
+    × (found (add 10 ∷ settle ∷ update first (box 20) ∷ remove first ∷ settle ∷ add 30 ∷ settle ∷ remove (keyOf 0 2) ∷ []) ≡ [] ∷ (box 30 ∷ []) ∷ [] ∷ [] ∷ [])  -- and so does an insert
+    × (rectSlots (done (add 10 ∷ add 11 ∷ add 30 ∷ settle ∷ [])) (aabb (num 9) (num 9) (num 12) (num 12)) ≡ 0 ∷ 1 ∷ [])  -- slots rising
+    × (rectSlots (done (add 10 ∷ settle ∷ [])) (box 9) ≡ 0 ∷ [])  -- low edges meet too
+    × (live (done (add 10 ∷ remove first ∷ add 20 ∷ [])) first ≡ false)  -- a stale key
+    × (answerNumber (updateCall (done (add 10 ∷ remove first ∷ add 20 ∷ [])) first (box 30) .answer) ≡ 10)
+    × (next (add 0 ∷ add 1 ∷ add 2 ∷ add 3 ∷ settle ∷ remove (keyOf 2 1) ∷ remove first ∷ remove (keyOf 3 1) ∷ settle ∷ add 4 ∷ add 5 ∷ []) ≡ inserts.Key (keyOf 2 2))  -- first freed, last used
+unfolding num box node add settle first done damage found next answerNumber entries freshIndex run after insertCall updateCall removeCall clearCall commitCall workOf rectSlots slots soundOf onceBelow every times nextGeneration queueWith lengthWith markOf previousAt slotFor usedFor generationFor actOf boxBefore movedFrom movedTo workStep work boxAt putBox idAt putId aabbEq overlaps round units odd size span climb eq le lt
+further = (refl, refl, refl, refl, refl, refl, refl, refl, refl)
+
+-- slots above 256, and a payload whose generation is not its key's
+pub wide : (insertCall (hand (set (replicate 512 1) 511 0) 0 511 0) (box 40) none .answer ≡ inserts.Key (keyOf 511 1))
+    × (live (hand (set (replicate 512 1) 511 0) 0 511 0) (keyOf 300 1) ≡ true)
+    × (entries (done (insert (box 10) (record { 0 = 10; 1 = 7 }) ∷ settle ∷ []) .generation) (done (insert (box 10) (record { 0 = 10; 1 = 7 }) ∷ settle ∷ []) .payload) (0 ∷ []) ≡ 0 ∷ 1 ∷ 10 ∷ 7 ∷ [])
+unfolding num box node add settle first done damage found next answerNumber entries freshIndex run after insertCall updateCall removeCall clearCall commitCall workOf rectSlots slots soundOf onceBelow every times nextGeneration queueWith lengthWith markOf previousAt slotFor usedFor generationFor actOf boxBefore movedFrom movedTo workStep work boxAt putBox idAt putId aabbEq overlaps round units odd size span climb eq le lt hand
+wide = (refl, refl, refl)
+
+-- unsound indexes, each by one condition of document 01 or of the tables' shape; every call answers 1
+pub broken : ℕ → ℕ → List ℕ → ℕ → List ℕ → ℕ → Index
+broken used frees free queued dirty mark =
+    record {
+      generation = replicate 512 1;
+      mark = set (replicate 512 0) 0 mark;
+      payload = replicate 1024 0;
+      aabb = replicate 2048 zero;
+      kept = replicate 512 0;
+      prev = replicate 2048 zero;
+      used = used;
+      free = free;
+      frees = frees;
+      dirty = dirty;
+      queued = queued;
+      backend = record { present = replicate 512 0; boxes = replicate 2048 zero };
+    }
+
+pub unsound : (soundIndex (broken 1 0 (replicate 512 0) 1 (replicate 512 0) 2) ≡ true)  -- one added entry, queued: sound
+    × (soundIndex (broken 1 0 (replicate 512 0) 0 (replicate 512 0) 2) ≡ false)  -- a marked entry that is not queued
+    × (soundIndex (broken 1 0 (replicate 512 0) 2 (replicate 512 0) 2) ≡ false)  -- a repeat in the queue
+    × (soundIndex (broken 1 1 (replicate 512 0) 1 (replicate 512 0) 2) ≡ false)  -- a used slot on the free list
+    × (soundIndex (broken 1 0 (replicate 512 0) 0 (replicate 512 0) 0) ≡ false)  -- a used empty slot that is not on it
+    × (soundIndex (broken 1 2 (replicate 512 0) 0 (replicate 512 0) 0) ≡ false)  -- on it twice
+    × (soundIndex (broken 0 1 (replicate 512 0) 0 (replicate 512 0) 0) ≡ false)  -- an unused slot on it
+    × (soundIndex (broken 0 0 (replicate 512 0) 0 (replicate 512 0) 1) ≡ false)  -- an entry beyond what is used
+    × (soundIndex (broken 0 0 (replicate 512 0) 1 (replicate 512 600) 0) ≡ false)  -- no slot in the queue
+    × (soundIndex (broken 513 0 (replicate 512 0) 0 (replicate 512 0) 0) ≡ false)
+    × (insertedNumber (insertCall (broken 0 1 (replicate 512 0) 0 (replicate 512 0) 0) (box 10) none .answer) ≡ 1)
+    × (answerNumber (updateCall (broken 0 1 (replicate 512 0) 0 (replicate 512 0) 0) first (box 10) .answer) ≡ 1)
+    × (answerNumber (removeCall (broken 0 1 (replicate 512 0) 0 (replicate 512 0) 0) first .answer) ≡ 1)
+    × (answerNumber (clearCall (broken 0 1 (replicate 512 0) 0 (replicate 512 0) 0) .answer) ≡ 1)
+    × (committedNumber (commitCall (broken 0 1 (replicate 512 0) 0 (replicate 512 0) 0) 0 0 0 0 .answer) ≡ 1)
+    × (queriedNumber (queryAnswer (broken 0 1 (replicate 512 0) 0 (replicate 512 0) 0) [] 0) ≡ 1)
+unfolding num box node add settle first done damage found next answerNumber entries freshIndex run after insertCall updateCall removeCall clearCall commitCall workOf rectSlots slots soundOf onceBelow every times nextGeneration queueWith lengthWith markOf previousAt slotFor usedFor generationFor actOf boxBefore movedFrom movedTo workStep work boxAt putBox idAt putId aabbEq overlaps round units odd size span climb eq le lt broken insertedNumber committedNumber queriedNumber queryAnswer numberOf
+unsound = (refl, refl, refl, refl, refl, refl, refl, refl, refl, refl, refl, refl, refl, refl, refl, refl)
 
 -- 8, for each of the four rooms and for a query's
 pub short-rooms : (committedNumber (commitCall freshIndex 2047 2048 2048 2048 .answer) ≡ 8)
