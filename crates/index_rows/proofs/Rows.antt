@@ -192,7 +192,7 @@ pub further : (found (add 40 ∷ settle ∷ remove first ∷ remove first ∷ []
     × (live (done (add 10 ∷ remove first ∷ add 20 ∷ [])) first ≡ false)  -- a stale key
     × (answerNumber (updateCall (done (add 10 ∷ remove first ∷ add 20 ∷ [])) first (box 30) .answer) ≡ 10)
     × (next (add 0 ∷ add 1 ∷ add 2 ∷ add 3 ∷ settle ∷ remove (keyOf 2 1) ∷ remove first ∷ remove (keyOf 3 1) ∷ settle ∷ add 4 ∷ add 5 ∷ []) ≡ inserts.Key (keyOf 2 2))  -- first freed, last used
-unfolding num box node add settle first done damage found next answerNumber entries freshIndex run after insertCall updateCall removeCall clearCall commitCall workOf rectSlots slots soundOf onceBelow every times nextGeneration queueWith lengthWith markOf previousAt slotFor usedFor generationFor actOf boxBefore movedFrom movedTo workStep work boxAt putBox idAt putId aabbEq overlaps round units odd size span climb eq le lt
+unfolding num box node add settle first done damage found next answerNumber entries freshIndex run after insertCall updateCall removeCall clearCall commitCall workOf rectSlots slots soundOf onceBelow every times nextGeneration queueWith lengthWith markOf previousAt slotFor usedFor generationFor actOf boxBefore movedFrom movedTo workStep work boxAt putBox idAt putId aabbEq overlaps round units odd size span climb eq le lt numberOf
 further = (refl, refl, refl, refl, refl, refl, refl, refl, refl)
 
 -- slots above 256, and a payload whose generation is not its key's
