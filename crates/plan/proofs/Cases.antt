@@ -78,7 +78,7 @@ pub structure : (next (root ∷ child a ∷ child a ∷ call.remove a ∷ root �
     × (told (root ∷ child a ∷ child a ∷ []) (call.reparent b (node.Some c)) ≡ 0)  -- under a sibling
     × (tapped (root ∷ child a ∷ child b ∷ root ∷ call.reparent b (node.Some (id 3 1)) ∷ settle ∷ []) (point 5 5) ≡ hit c (id 3 1 ∷ b ∷ c ∷ []))  -- moved with what is below
     × (tapped (root ∷ child a ∷ child b ∷ call.reparent b node.None ∷ settle ∷ []) (point 5 5) ≡ hit c (b ∷ c ∷ []))  -- moved to root
-    × (children 0 (after (root ∷ child a ∷ child b ∷ root ∷ call.reparent b (node.Some (id 3 1)) ∷ []) .links) ≡ [])  -- left
+    × (children 0 (after (root ∷ child a ∷ child b ∷ root ∷ call.reparent b (node.Some (id 3 1)) ∷ []) .links) ≡ [])  -- it has left its old parent
     × (told (root ∷ child a ∷ child b ∷ child a ∷ call.remove b ∷ []) (call.remove c) ≡ 2)  -- removed below
     × (told (root ∷ child a ∷ child b ∷ child a ∷ call.remove b ∷ []) (call.remove (id 3 1)) ≡ 0)  -- kept beside
     × (generationFrom (0 ∷ []) (λ x. 4294967295) ≡ 4294967295)  -- saturates
@@ -112,7 +112,7 @@ setters = (refl, refl, refl, refl, refl, refl, refl, refl, refl, refl, refl, ref
 -- the lowest number that applies
 pub numbers-of-refusal : (told [] (call.insert (node.Some a) (grown nan)) ≡ 3)  -- 3 before 5
     × (told [] (call.insert node.None (rec (whole 10) noInset (scaled (inf false)) is.None (pos 0) 9)) ≡ 5)  -- 5 before 6
-    × (told [] (call.insert node.None (rec (whole 10) noInset identity is.None (pos 0) 8)) ≡ 6)  -- 6
+    × (told [] (call.insert node.None (rec (whole 10) noInset identity is.None (pos 0) 8)) ≡ 6)  -- a flag byte of 8
     × (told [] (call.insert node.None (rec (whole 10) noInset identity is.None (pos 0) 7)) ≡ 0)  -- 7 is known
     × (told (root ∷ []) (call.set-local-transform a (scaled (inf true))) ≡ 5)  -- transform
     × (told (root ∷ []) (call.set-local-transform b (scaled (inf true))) ≡ 2)  -- transform dead
@@ -130,7 +130,7 @@ pub numbers-of-refusal : (told [] (call.insert (node.Some a) (grown nan)) ≡ 3)
     × (told (root ∷ child a ∷ call.remove b ∷ root ∷ []) (call.reparent (id 1 2) (node.Some b)) ≡ 3)  -- parent itself dead former child
     × (told [] (call.remove (id 0 0)) ≡ 2)  -- remove dead
     × (told [] (call.insert (node.Some (id 4294967295 1)) ten) ≡ 3)  -- beyond
-    × (told (roots-of 256) root ≡ 9)  -- full
+    × (told (roots-of 256) root ≡ 9)  -- 256 live nodes
     × (told (roots-of 255) root ≡ 0)  -- not full
     × (told (roots-of 256) (call.insert node.None (rec (whole 10) noInset identity is.None (pos 0) 8)) ≡ 6)  -- 6 before 9
     × (told (roots-of 256 ++ (call.remove (id 7 1) ∷ [])) root ≡ 0)  -- after a removal
@@ -143,9 +143,9 @@ pub entries : (listing (root ∷ root ∷ root ∷ settle ∷ call.remove a ∷ 
     × (listing (root ∷ root ∷ root ∷ settle ∷ call.remove a ∷ settle ∷ call.remove b ∷ settle ∷ root ∷ root ∷ settle ∷ []) ≡ id 1 2 ∷ id 0 2 ∷ c ∷ [])  -- freed in two commits
     × (after (root ∷ settle ∷ call.remove a ∷ root ∷ call.remove (id 0 2) ∷ []) .entries .removed ≡ 0 ∷ [])  -- once removed
     × (needs (root ∷ settle ∷ call.remove a ∷ root ∷ call.remove (id 0 2) ∷ []) ≡ true)  -- need
-    × (needs (root ∷ settle ∷ child a ∷ call.remove b ∷ []) ≡ false)  -- a1
-    × (needs (root ∷ child a ∷ call.remove a ∷ []) ≡ false)  -- a1
-    × (needs (root ∷ settle ∷ call.set-local-bounds a (rect fl.zero fl.zero fl.one fl.one) ∷ call.remove a ∷ []) ≡ true)  -- a3
+    × (needs (root ∷ settle ∷ child a ∷ call.remove b ∷ []) ≡ false)  -- inserted and removed again
+    × (needs (root ∷ child a ∷ call.remove a ∷ []) ≡ false)  -- inserted and removed again
+    × (needs (root ∷ settle ∷ call.set-local-bounds a (rect fl.zero fl.zero fl.one fl.one) ∷ call.remove a ∷ []) ≡ true)  -- changed, then removed
     × (listing (root ∷ root ∷ settle ∷ call.reparent a (node.Some b) ∷ settle ∷ []) ≡ a ∷ b ∷ [])  -- entry kept in a move
     × (visits (after (root ∷ root ∷ settle ∷ call.set-local-bounds b (rect fl.zero fl.zero fl.one fl.one) ∷ call.set-local-bounds a (rect fl.zero fl.zero fl.one fl.one) ∷ [])) ≡ 0 ∷ 1 ∷ [])  -- by id not by time
     × (visits (after (root ∷ root ∷ settle ∷ call.reparent a (node.Some b) ∷ [])) ≡ 0 ∷ [])  -- covered by a later start
@@ -156,38 +156,38 @@ entries = (refl, refl, refl, refl, refl, refl, refl, refl, refl, refl, refl, ref
 
 -- world boxes, taps and listings
 pub worlds : (worldBounds (after (node-with (whole 10) noInset (turn 100 0) (is.None) (pos 0) 3 ∷ call.insert (node.Some a) (rec (whole 10) noInset (shifted 10 0) (is.None) (pos 0) 3) ∷ [])) 1 ≡ rect (num 90) (num 10) (num 100) (num 20))  -- parent times own
-    × (worldBounds (after (node-with (whole 10) noInset (turn 100 0) (is.None) (pos 0) 3 ∷ call.insert (node.Some a) (rec (whole 10) noInset (shifted 10 0) (is.None) (pos 0) 3) ∷ call.insert (node.Some b) (rec (whole 10) noInset (turn 7 0) (is.None) (pos 0) 3) ∷ [])) 2 ≡ rect (num 90) (num 7) (num 100) (num 17))  -- three
-    × (worldPlace (after (node-with (whole 10) noInset (record { a = neg fl.zero; b = fl.zero; c = fl.zero; d = neg fl.zero; e = neg fl.zero; f = neg fl.zero }) (is.None) (pos 0) 3 ∷ [])) 0 .transform ≡ record { a = fl.zero; b = fl.zero; c = fl.zero; d = fl.zero; e = fl.zero; f = fl.zero })  -- c3 root is identity times own
-    × (tapped (node-with (rect (num 10) (num 10) fl.zero fl.zero) noInset (identity) (is.None) (pos 0) 3 ∷ settle ∷ []) (point 5 5) ≡ hit a (a ∷ []))  -- c5 unordered
-    × (worldBounds (after (node-with (rect (num 10) (num 10) fl.zero fl.zero) noInset (identity) (is.None) (pos 0) 3 ∷ settle ∷ [])) 0 ≡ whole 10)  -- c5
-    × (listPoint (after (node-with (whole 10) noInset (identity) (is.Square (num 20) (num 20) (num 30) (num 30)) (pos 0) 3 ∷ child a ∷ settle ∷ [])) (flags 0) (point 20 20) ≡ a ∷ b ∷ [])  -- c7
-    × (worldBounds (after (node-with (whole 0) noInset (scaled (big 308)) (is.Square fl.zero fl.zero (small 307) (small 307)) (pos 0) 3 ∷ call.insert (node.Some a) (rec (whole 0) noInset (scaled (big 308)) (is.None) (pos 0) 3) ∷ settle ∷ [])) 1 ≡ whole 10)  -- c8 nan box under a clip
-    × (listPoint (after (node-with (whole 0) noInset (scaled (big 308)) (is.Square fl.zero fl.zero (small 307) (small 307)) (pos 0) 3 ∷ call.insert (node.Some a) (rec (whole 0) noInset (scaled (big 308)) (is.None) (pos 0) 3) ∷ settle ∷ [])) (flags 0) (point 5 5) ≡ b ∷ [])  -- c8 listed
-    × (tapped (node-with (whole 0) noInset (scaled (big 308)) (is.Square fl.zero fl.zero (small 307) (small 307)) (pos 0) 3 ∷ call.insert (node.Some a) (rec (whole 0) noInset (scaled (big 308)) (is.None) (pos 0) 3) ∷ settle ∷ []) (point 5 5) ≡ nothing)  -- c8 not tapped
-    × (listRect (after (root ∷ settle ∷ [])) (flags 3) (rect (num 20) (num 20) (neg (num 20)) (neg (num 20))) ≡ [])  -- c9 as given
+    × (worldBounds (after (node-with (whole 10) noInset (turn 100 0) (is.None) (pos 0) 3 ∷ call.insert (node.Some a) (rec (whole 10) noInset (shifted 10 0) (is.None) (pos 0) 3) ∷ call.insert (node.Some b) (rec (whole 10) noInset (turn 7 0) (is.None) (pos 0) 3) ∷ [])) 2 ≡ rect (num 90) (num 7) (num 100) (num 17))  -- three removed
+    × (worldPlace (after (node-with (whole 10) noInset (record { a = neg fl.zero; b = fl.zero; c = fl.zero; d = neg fl.zero; e = neg fl.zero; f = neg fl.zero }) (is.None) (pos 0) 3 ∷ [])) 0 .transform ≡ record { a = fl.zero; b = fl.zero; c = fl.zero; d = fl.zero; e = fl.zero; f = fl.zero })  -- root is identity times own
+    × (tapped (node-with (rect (num 10) (num 10) fl.zero fl.zero) noInset (identity) (is.None) (pos 0) 3 ∷ settle ∷ []) (point 5 5) ≡ hit a (a ∷ []))  -- unordered
+    × (worldBounds (after (node-with (rect (num 10) (num 10) fl.zero fl.zero) noInset (identity) (is.None) (pos 0) 3 ∷ settle ∷ [])) 0 ≡ whole 10)  -- unordered bounds are hit
+    × (listPoint (after (node-with (whole 10) noInset (identity) (is.Square (num 20) (num 20) (num 30) (num 30)) (pos 0) 3 ∷ child a ∷ settle ∷ [])) (flags 0) (point 20 20) ≡ a ∷ b ∷ [])  -- a wholly clipped node is listed at its clip
+    × (worldBounds (after (node-with (whole 0) noInset (scaled (big 308)) (is.Square fl.zero fl.zero (small 307) (small 307)) (pos 0) 3 ∷ call.insert (node.Some a) (rec (whole 0) noInset (scaled (big 308)) (is.None) (pos 0) 3) ∷ settle ∷ [])) 1 ≡ whole 10)  -- nan box under a clip
+    × (listPoint (after (node-with (whole 0) noInset (scaled (big 308)) (is.Square fl.zero fl.zero (small 307) (small 307)) (pos 0) 3 ∷ call.insert (node.Some a) (rec (whole 0) noInset (scaled (big 308)) (is.None) (pos 0) 3) ∷ settle ∷ [])) (flags 0) (point 5 5) ≡ b ∷ [])  -- a NaN box under a clip is the clip
+    × (tapped (node-with (whole 0) noInset (scaled (big 308)) (is.Square fl.zero fl.zero (small 307) (small 307)) (pos 0) 3 ∷ call.insert (node.Some a) (rec (whole 0) noInset (scaled (big 308)) (is.None) (pos 0) 3) ∷ settle ∷ []) (point 5 5) ≡ nothing)  -- not tapped
+    × (listRect (after (root ∷ settle ∷ [])) (flags 3) (rect (num 20) (num 20) (neg (num 20)) (neg (num 20))) ≡ [])  -- as given
     × (listRect (after (root ∷ settle ∷ [])) (flags 3) (rect nan fl.zero (num 5) (num 5)) ≡ [])  -- nan
     × (tapped (root ∷ settle ∷ []) (record { x = nan; y = num 5 }) ≡ nothing)  -- nan tap
     × (tapped (root ∷ settle ∷ []) (record { x = neg fl.zero; y = neg fl.zero }) ≡ hit a (a ∷ []))  -- minus zero
-    × (tapped (node-with (rect (neg (num 5)) (neg (num 5)) (num 5) (num 5)) noInset (identity) (is.Square (round binary64 false 1 10) (neg fl.one) (round binary64 false 3 10) fl.one) (pos 0) 3 ∷ settle ∷ []) (record { x = round binary64 false 1 10; y = fl.zero }) ≡ nothing)  -- c10 tap
-    × (listPoint (after (node-with (rect (neg (num 5)) (neg (num 5)) (num 5) (num 5)) noInset (identity) (is.Square (round binary64 false 1 10) (neg fl.one) (round binary64 false 3 10) fl.one) (pos 0) 3 ∷ settle ∷ [])) (flags 3) (record { x = round binary64 false 1 10; y = fl.zero }) ≡ a ∷ [])  -- c10 listed
-    × (tapped (node-with (whole 10) noInset (scaled (small 200)) (is.Rounded fl.zero fl.zero (big 202) (big 202) (big 201) (big 201) (big 201) (big 201)) (pos 0) 3 ∷ call.insert (node.Some a) (rec (whole 100) noInset (scaled (big 200)) (is.None) (pos 0) 3) ∷ settle ∷ []) (point 0 0) ≡ hit b (a ∷ b ∷ []))  -- c14
-    × (tapped (node-with (whole 10) noInset (scaled (small 200)) (is.Square fl.zero fl.zero (round binary64 false (50 * 10 ^ 200) 1) (round binary64 false (50 * 10 ^ 200) 1)) (pos 0) 3 ∷ call.insert (node.Some a) (rec (whole 100) noInset (scaled (big 200)) (is.None) (pos 0) 3) ∷ settle ∷ []) (point 60 60) ≡ nothing)  -- c15 world hit box
-    × (tapped (node-with (whole 10) noInset (scaled (small 200)) (is.Square fl.zero fl.zero (round binary64 false (50 * 10 ^ 200) 1) (round binary64 false (50 * 10 ^ 200) 1)) (pos 0) 3 ∷ call.insert (node.Some a) (rec (whole 100) noInset (scaled (big 200)) (is.None) (pos 0) 3) ∷ settle ∷ []) (point 40 40) ≡ hit b (a ∷ b ∷ []))  -- c15
-    × (tapped (node-with (whole 10) noInset (record { a = fl.zero; b = fl.zero; c = fl.zero; d = fl.zero; e = num 5; f = num 5 }) (is.None) (pos 0) 3 ∷ settle ∷ []) (point 5 5) ≡ nothing)  -- p8
-    × (listPoint (after (node-with (whole 10) noInset (record { a = fl.zero; b = fl.zero; c = fl.zero; d = fl.zero; e = num 5; f = num 5 }) (is.None) (pos 0) 3 ∷ settle ∷ [])) (flags 3) (point 5 5) ≡ a ∷ [])  -- c16 listed
-    × (tapped (node-with (rect (neg (round binary64 false (17 * 10 ^ 307) 1)) (neg (round binary64 false (17 * 10 ^ 307) 1)) fl.one fl.one) (record { x0 = big 308; y0 = big 308; x1 = fl.zero; y1 = fl.zero }) (record { a = fl.one; b = neg fl.one; c = neg fl.one; d = fl.one; e = fl.one; f = fl.zero }) is.None (pos 0) 3 ∷ settle ∷ []) (record { x = neg fl.one; y = neg fl.one }) ≡ hit a (a ∷ []))  -- c16 zero determinant hits
-    × (listPoint (after (node-with (rect (neg (round binary64 false (17 * 10 ^ 307) 1)) (neg (round binary64 false (17 * 10 ^ 307) 1)) (round binary64 false (17 * 10 ^ 307) 1) (round binary64 false (17 * 10 ^ 307) 1)) (record { x0 = big 308; y0 = big 308; x1 = big 308; y1 = big 308 }) identity (is.None) (pos 0) 3 ∷ settle ∷ [])) (flags 3) (point 5 5) ≡ [])  -- c18 hidden
-    × (tapped (node-with (rect (neg (round binary64 false (17 * 10 ^ 307) 1)) (neg (round binary64 false (17 * 10 ^ 307) 1)) (round binary64 false (17 * 10 ^ 307) 1) (round binary64 false (17 * 10 ^ 307) 1)) (record { x0 = big 308; y0 = big 308; x1 = big 308; y1 = big 308 }) identity (is.None) (pos 0) 3 ∷ settle ∷ []) (point 5 5) ≡ nothing)  -- c18 tap
-    × (listPoint (after (node-with (rect (neg (round binary64 false (17 * 10 ^ 307) 1)) (neg (round binary64 false (17 * 10 ^ 307) 1)) (round binary64 false (17 * 10 ^ 307) 1) (round binary64 false (17 * 10 ^ 307) 1)) (record { x0 = big 308; y0 = big 308; x1 = big 308; y1 = big 308 }) identity (is.Square fl.zero fl.zero (num 10) (num 10)) (pos 0) 3 ∷ settle ∷ [])) (flags 3) (point 5 5) ≡ a ∷ [])  -- c18 clipped
-    × (tapped (node-with (rect (neg (round binary64 false (17 * 10 ^ 307) 1)) (neg (round binary64 false (17 * 10 ^ 307) 1)) (round binary64 false (17 * 10 ^ 307) 1) (round binary64 false (17 * 10 ^ 307) 1)) (record { x0 = big 308; y0 = big 308; x1 = big 308; y1 = big 308 }) identity (is.Square fl.zero fl.zero (num 10) (num 10)) (pos 0) 3 ∷ settle ∷ []) (point 5 5) ≡ hit a (a ∷ []))  -- c18 clipped
-    × (tapped (call.insert node.None (local 10 (is.Rounded fl.zero fl.zero (num 10) (num 10) (num 5) fl.zero fl.zero fl.zero) (pos 0)) ∷ settle ∷ []) (record { x = (round binary64 false 1 2); y = (round binary64 false 1 2) }) ≡ nothing)  -- c23 own clip
-    × (tapped (call.insert node.None (local 10 (is.Rounded fl.zero fl.zero (num 10) (num 10) (num 5) fl.zero fl.zero fl.zero) (pos 0)) ∷ settle ∷ []) (record { x = round binary64 false 19 2; y = round binary64 false 19 2 }) ≡ hit a (a ∷ []))  -- c23
+    × (tapped (node-with (rect (neg (num 5)) (neg (num 5)) (num 5) (num 5)) noInset (identity) (is.Square (round binary64 false 1 10) (neg fl.one) (round binary64 false 3 10) fl.one) (pos 0) 3 ∷ settle ∷ []) (record { x = round binary64 false 1 10; y = fl.zero }) ≡ nothing)  -- so its own edge can be out
+    × (listPoint (after (node-with (rect (neg (num 5)) (neg (num 5)) (num 5) (num 5)) noInset (identity) (is.Square (round binary64 false 1 10) (neg fl.one) (round binary64 false 3 10) fl.one) (pos 0) 3 ∷ settle ∷ [])) (flags 3) (record { x = round binary64 false 1 10; y = fl.zero }) ≡ a ∷ [])  -- and is listed
+    × (tapped (node-with (whole 10) noInset (scaled (small 200)) (is.Rounded fl.zero fl.zero (big 202) (big 202) (big 201) (big 201) (big 201) (big 201)) (pos 0) 3 ∷ call.insert (node.Some a) (rec (whole 100) noInset (scaled (big 200)) (is.None) (pos 0) 3) ∷ settle ∷ []) (point 0 0) ≡ hit b (a ∷ b ∷ []))  -- a NaN mapped-back point is inside every clip
+    × (tapped (node-with (whole 10) noInset (scaled (small 200)) (is.Square fl.zero fl.zero (round binary64 false (50 * 10 ^ 200) 1) (round binary64 false (50 * 10 ^ 200) 1)) (pos 0) 3 ∷ call.insert (node.Some a) (rec (whole 100) noInset (scaled (big 200)) (is.None) (pos 0) 3) ∷ settle ∷ []) (point 60 60) ≡ nothing)  -- the world hit box cuts it off
+    × (tapped (node-with (whole 10) noInset (scaled (small 200)) (is.Square fl.zero fl.zero (round binary64 false (50 * 10 ^ 200) 1) (round binary64 false (50 * 10 ^ 200) 1)) (pos 0) 3 ∷ call.insert (node.Some a) (rec (whole 100) noInset (scaled (big 200)) (is.None) (pos 0) 3) ∷ settle ∷ []) (point 40 40) ≡ hit b (a ∷ b ∷ []))  -- the fine test alone would take it
+    × (tapped (node-with (whole 10) noInset (record { a = fl.zero; b = fl.zero; c = fl.zero; d = fl.zero; e = num 5; f = num 5 }) (is.None) (pos 0) 3 ∷ settle ∷ []) (point 5 5) ≡ nothing)  -- an all-zero linear part is never hit
+    × (listPoint (after (node-with (whole 10) noInset (record { a = fl.zero; b = fl.zero; c = fl.zero; d = fl.zero; e = num 5; f = num 5 }) (is.None) (pos 0) 3 ∷ settle ∷ [])) (flags 3) (point 5 5) ≡ a ∷ [])  -- a zero determinant is listed
+    × (tapped (node-with (rect (neg (round binary64 false (17 * 10 ^ 307) 1)) (neg (round binary64 false (17 * 10 ^ 307) 1)) fl.one fl.one) (record { x0 = big 308; y0 = big 308; x1 = fl.zero; y1 = fl.zero }) (record { a = fl.one; b = neg fl.one; c = neg fl.one; d = fl.one; e = fl.one; f = fl.zero }) is.None (pos 0) 3 ∷ settle ∷ []) (record { x = neg fl.one; y = neg fl.one }) ≡ hit a (a ∷ []))  -- zero determinant hits
+    × (listPoint (after (node-with (rect (neg (round binary64 false (17 * 10 ^ 307) 1)) (neg (round binary64 false (17 * 10 ^ 307) 1)) (round binary64 false (17 * 10 ^ 307) 1) (round binary64 false (17 * 10 ^ 307) 1)) (record { x0 = big 308; y0 = big 308; x1 = big 308; y1 = big 308 }) identity (is.None) (pos 0) 3 ∷ settle ∷ [])) (flags 3) (point 5 5) ≡ [])  -- hidden
+    × (tapped (node-with (rect (neg (round binary64 false (17 * 10 ^ 307) 1)) (neg (round binary64 false (17 * 10 ^ 307) 1)) (round binary64 false (17 * 10 ^ 307) 1) (round binary64 false (17 * 10 ^ 307) 1)) (record { x0 = big 308; y0 = big 308; x1 = big 308; y1 = big 308 }) identity (is.None) (pos 0) 3 ∷ settle ∷ []) (point 5 5) ≡ nothing)  -- an overflowing slop hides the node
+    × (listPoint (after (node-with (rect (neg (round binary64 false (17 * 10 ^ 307) 1)) (neg (round binary64 false (17 * 10 ^ 307) 1)) (round binary64 false (17 * 10 ^ 307) 1) (round binary64 false (17 * 10 ^ 307) 1)) (record { x0 = big 308; y0 = big 308; x1 = big 308; y1 = big 308 }) identity (is.Square fl.zero fl.zero (num 10) (num 10)) (pos 0) 3 ∷ settle ∷ [])) (flags 3) (point 5 5) ≡ a ∷ [])  -- an overflowing slop under a clip
+    × (tapped (node-with (rect (neg (round binary64 false (17 * 10 ^ 307) 1)) (neg (round binary64 false (17 * 10 ^ 307) 1)) (round binary64 false (17 * 10 ^ 307) 1) (round binary64 false (17 * 10 ^ 307) 1)) (record { x0 = big 308; y0 = big 308; x1 = big 308; y1 = big 308 }) identity (is.Square fl.zero fl.zero (num 10) (num 10)) (pos 0) 3 ∷ settle ∷ []) (point 5 5) ≡ hit a (a ∷ []))  -- an overflowing slop under a clip
+    × (tapped (call.insert node.None (local 10 (is.Rounded fl.zero fl.zero (num 10) (num 10) (num 5) fl.zero fl.zero fl.zero) (pos 0)) ∷ settle ∷ []) (record { x = (round binary64 false 1 2); y = (round binary64 false 1 2) }) ≡ nothing)  -- own clip
+    × (tapped (call.insert node.None (local 10 (is.Rounded fl.zero fl.zero (num 10) (num 10) (num 5) fl.zero fl.zero fl.zero) (pos 0)) ∷ settle ∷ []) (record { x = round binary64 false 19 2; y = round binary64 false 19 2 }) ≡ hit a (a ∷ []))  -- radii by quadrant
     × (listPoint (after (call.insert node.None (local 10 (is.Rounded fl.zero fl.zero (num 10) (num 10) (num 5) fl.zero fl.zero fl.zero) (pos 0)) ∷ settle ∷ [])) (flags 3) (record { x = (round binary64 false 1 2); y = (round binary64 false 1 2) }) ≡ a ∷ [])  -- listed
     × (tapped (node-with (whole 10) noInset (shifted 20 0) (rounded5) (pos 0) 3 ∷ call.insert (node.Some a) (rec (whole 10) noInset (shifted 5 0) (is.None) (pos 0) 3) ∷ settle ∷ []) (record { x = round binary64 false 119 4; y = round binary64 false 1 4 }) ≡ nothing)  -- ancestors clip under its inverse
     × (listPoint (after (node-with (whole 10) noInset (shifted 20 0) (rounded5) (pos 0) 3 ∷ call.insert (node.Some a) (rec (whole 10) noInset (shifted 5 0) (is.None) (pos 0) 3) ∷ settle ∷ [])) (flags 3) (record { x = round binary64 false 119 4; y = round binary64 false 1 4 }) ≡ a ∷ b ∷ [])  -- listed
     × (tapped (node-with (whole 10) noInset (shifted 20 0) (rounded5) (pos 0) 3 ∷ call.insert (node.Some a) (rec (whole 10) noInset (shifted 5 0) (is.None) (pos 0) 3) ∷ settle ∷ []) (point 27 5) ≡ hit b (a ∷ b ∷ []))  -- inside
-    × (tapped (node-with (whole 0) noInset (record { a = small 200; b = fl.zero; c = big 200; d = big 200; e = big 200; f = big 200 }) (is.Rounded (neg (num 5)) (neg fl.one) (num 5) fl.one (round binary64 false 3 (4 * 2 ^ 53)) (round binary64 false 3 (4 * 2 ^ 53)) (round binary64 false 3 (4 * 2 ^ 53)) (round binary64 false 3 (4 * 2 ^ 53))) (pos 0) 3 ∷ call.insert (node.Some a) (rec (whole 10) noInset (record { a = big 200; b = fl.zero; c = neg (big 200); d = small 200; e = fl.zero; f = neg fl.one }) is.None (pos 0) 3) ∷ settle ∷ []) (point 5 5) ≡ hit b (a ∷ b ∷ []))  -- c13 nan quadrant
-    × (tapped (node-with (rect (neg (num 5)) (neg (num 5)) (num 5) (num 5)) noInset (identity) (is.Square (round binary64 false 1 5) (neg fl.one) (round binary64 false 1 2) fl.one) (pos 0) 3 ∷ settle ∷ []) (record { x = round binary64 false 1 2; y = fl.zero }) ≡ nothing)  -- c10
+    × (tapped (node-with (whole 0) noInset (record { a = small 200; b = fl.zero; c = big 200; d = big 200; e = big 200; f = big 200 }) (is.Rounded (neg (num 5)) (neg fl.one) (num 5) fl.one (round binary64 false 3 (4 * 2 ^ 53)) (round binary64 false 3 (4 * 2 ^ 53)) (round binary64 false 3 (4 * 2 ^ 53)) (round binary64 false 3 (4 * 2 ^ 53))) (pos 0) 3 ∷ call.insert (node.Some a) (rec (whole 10) noInset (record { a = big 200; b = fl.zero; c = neg (big 200); d = small 200; e = fl.zero; f = neg fl.one }) is.None (pos 0) 3) ∷ settle ∷ []) (point 5 5) ≡ hit b (a ∷ b ∷ []))  -- nan quadrant
+    × (tapped (node-with (rect (neg (num 5)) (neg (num 5)) (num 5) (num 5)) noInset (identity) (is.Square (round binary64 false 1 5) (neg fl.one) (round binary64 false 1 2) fl.one) (pos 0) 3 ∷ settle ∷ []) (record { x = round binary64 false 1 2; y = fl.zero }) ≡ nothing)  -- a square clip, measured from its centre
     × (tapped (node-with (whole 10) noInset (shifted 20 0) (rounded5) (pos 0) 3 ∷ call.insert (node.Some a) (rec (whole 10) noInset (identity) (is.None) (pos 0) 3) ∷ call.insert (node.Some b) (rec (whole 10) noInset (shifted 5 0) (is.None) (pos 0) 3) ∷ settle ∷ []) (record { x = round binary64 false 119 4; y = round binary64 false 1 4 }) ≡ nothing)  -- grandparents clip
     × (tapped (call.insert node.None (grown (num 5)) ∷ settle ∷ []) (point 12 5) ≡ hit a (a ∷ []))  -- slop taps
     × (listPoint (after (call.insert node.None (grown (num 5)) ∷ settle ∷ [])) (flags 3) (point 12 5) ≡ [])  -- slop not listed
@@ -197,13 +197,13 @@ pub worlds : (worldBounds (after (node-with (whole 10) noInset (turn 100 0) (is.
     × (tapped (root ∷ child a ∷ child b ∷ child a ∷ settle ∷ []) (point 5 5) ≡ hit c (a ∷ b ∷ c ∷ []))  -- depth three
     × (tapped (node-with (whole 10) noInset (identity) (is.None) (pos 0) 1 ∷ settle ∷ []) (point 5 5) ≡ nothing)  -- one flag missing tap
     × (listPoint (after (node-with (whole 10) noInset (identity) (is.None) (pos 0) 1 ∷ settle ∷ [])) (flags 3) (point 5 5) ≡ [])  -- one flag missing list
-    × (listRect (after (node-with (whole 10) noInset (identity) (is.None) (pos 0) 1 ∷ settle ∷ [])) (flags 3) (whole 5) ≡ [])  -- rect
+    × (listRect (after (node-with (whole 10) noInset (identity) (is.None) (pos 0) 1 ∷ settle ∷ [])) (flags 3) (whole 5) ≡ [])  -- by a rectangle
     × (listPoint (after (node-with (whole 10) noInset (identity) (is.None) (pos 0) 1 ∷ settle ∷ [])) (flags 1) (point 5 5) ≡ a ∷ [])  -- asked 1
     × (tapped (node-with (whole 10) noInset (identity) (is.None) (pos 0) 7 ∷ settle ∷ []) (point 5 5) ≡ hit a (a ∷ []))  -- more flags
     × (tap (after (node-with (whole 10) noInset (identity) (is.None) (pos 0) 0 ∷ settle ∷ [])) (flags 0) (point 5 5) ≡ hit a (a ∷ []))  -- asked 0
     × (worldBounds (after (node-with (whole 10) noInset (identity) (is.Square fl.zero fl.zero (num 6) (num 6)) (pos 0) 3 ∷ call.insert (node.Some a) (rec (whole 10) noInset (identity) (is.Square (num 4) (num 4) (num 10) (num 10)) (pos 0) 3) ∷ [])) 1 ≡ rect (num 4) (num 4) (num 6) (num 6))  -- own and parents clip
     × (worldBounds (after (node-with (whole 10) noInset (shifted 20 0) (is.Square fl.zero fl.zero (num 4) (num 4)) (pos 0) 3 ∷ [])) 0 ≡ rect (num 20) fl.zero (num 24) (num 4))  -- clip under world transform
-    × (worldBounds (after (node-with (whole 10) noInset (shifted 20 0) (is.None) (pos 0) 3 ∷ call.insert (node.Some a) (rec (whole 10) noInset (shifted 3 0) (is.Square fl.zero fl.zero (num 4) (num 4)) (pos 0) 3) ∷ [])) 1 ≡ rect (num 23) fl.zero (num 27) (num 4))  -- childs clip
+    × (worldBounds (after (node-with (whole 10) noInset (shifted 20 0) (is.None) (pos 0) 3 ∷ call.insert (node.Some a) (rec (whole 10) noInset (shifted 3 0) (is.Square fl.zero fl.zero (num 4) (num 4)) (pos 0) 3) ∷ [])) 1 ≡ rect (num 23) fl.zero (num 27) (num 4))  -- the child's clip
     × (worldHitBounds (after (call.insert node.None (grown (num 5)) ∷ [])) 0 ≡ rect (neg (num 5)) (neg (num 5)) (num 15) (num 15))  -- hit box with slop
     × (tapped (root ∷ child a ∷ settle ∷ call.set-local-transform a (shifted 20 0) ∷ settle ∷ call.set-local-transform a (shifted 40 0) ∷ settle ∷ []) (point 45 5) ≡ hit b (a ∷ b ∷ []))  -- second commit
     × (tapped (root ∷ child a ∷ settle ∷ call.set-local-transform a (shifted 20 0) ∷ settle ∷ call.set-local-transform a (shifted 40 0) ∷ settle ∷ []) (point 25 5) ≡ nothing)  -- old place
@@ -231,8 +231,8 @@ unfolding num point id local ten turn shifted grown root child settle after next
 handed-out = (refl, refl, refl, refl)
 
 -- limits
-pub many : (twice 16 .entries .entry 0 ≡ number 16)  -- 16
-    × (twice 16 .entries .used ≡ 32)  -- 16u
+pub many : (twice 16 .entries .entry 0 ≡ number 16)  -- sixteen removed and sixteen new
+    × (twice 16 .entries .used ≡ 32)  -- their entries
 unfolding num point id local ten turn shifted grown root child settle after next listing needs told tapped a b c run step refusal lowest accepted inserted removed moved committed needsCommit starts visits enter keep any joined upTo insertSorted sorted pre post has cat under remove roots spot hasAll finiteLocal stored finiteRect finiteInsets finiteAffine finiteClip finiteClipRect affineEq rectEq insetsEq clipEq clipRectEq constructed clipRect clipRadii fitted shaped quadrant excess insideRounded inside ordered intersection contains plusInsets noInsets mapped product inverse transformRectBbox containsPoint overlaps image meetOwn meet clipped placed worldBox hitBox reached placedOn worldBounds worldHitBounds inClips candidate larger largest tap meetsRect meetsPoint inEntryOrder listRect listPoint redactLocal redact minimum maximum magnitude round units odd size span climb neg add sub mul div eq le lt isNan gone twice whole big small rec node-with roots-of scaled rounded5 outcome outcomes answer
 many = (refl, refl)
 
