@@ -50,7 +50,7 @@ fine t asked pt x =
     && (reached (inverse (storedPlace t x .transform)) (v .«local_bounds») (v .«hit_slop») (v .«local_clip») pt
     && inStoredClips t (ancestors t (placeOf t x)) pt)
 
--- x before y: level, depth, generation, index
+-- x wins over y: level, depth, generation, index
 unfoldable pub stronger : Tree → ℕ → ℕ → Bool
 stronger t x y =
     let levelX = localAt t x .«z_index» in
