@@ -22,12 +22,6 @@ count-here c =
     count-tells (ix .mark) (ix .free) (ix .frees) (ix .dirty) (ix .queued) (ix .used) (lens S .0) (lens S .1) (lens S .2) .0
     (sym (c .before .is-sound .ensures) ∙ not-false (c .before .is-sound .result) (c .if1 .left))
 
--- a slot is left
-room-here : (c : tie.Else2) → let ix = c .before .before .before .before .before .before .before .before .before .before .before .before .before .before .before .args .ix in ix .frees ≡ 0 → ix .used < 512
-room-here c e =
-    let ix = c .before .before .before .before .before .before .before .before .before .before .before .before .before .before .before .args .ix in
-    leb-false 512 (ix .used) (rw (eq-eqb (ix .frees) 0 e) at (c .if2 .left))
-
 is-sound-requires : tie.Need-is-sound-requires
 is-sound-requires c κs = search needs
 
@@ -38,6 +32,12 @@ returns c = rw (insertCall, ← c .before .is-sound .ensures, c .if1 .taken)
 returns-2 : tie.Need-returns-2
 unfolding insertCall
 returns-2 c = rw (insertCall, ← c .before .before .is-sound .ensures, c .before .if1 .left, c .if2 .taken)
+
+-- a slot is left
+room-here : (c : tie.Else2) → let ix = c .before .before .before .before .before .before .before .before .before .before .before .before .before .before .before .args .ix in ix .frees ≡ 0 → ix .used < 512
+room-here c e =
+    let ix = c .before .before .before .before .before .before .before .before .before .before .before .before .before .before .before .args .ix in
+    leb-false 512 (ix .used) (rw (eq-eqb (ix .frees) 0 e) at (c .if2 .left))
 
 insert-entry-requires : tie.Need-insert-entry-requires
 insert-entry-requires c κs =
