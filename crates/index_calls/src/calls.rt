@@ -3,16 +3,34 @@ ghost use mathlib.Core.Path.{_≡_};
 ghost use Prim.Native.Nat.{_≤_};
 ghost use lib.ListN.{length};
 use crate::damage;
-use crate::line;
-use crate::print;
-use crate::print::Buffer;
+use crate::show;
 use boxes::Aabb2D;
 use boxes::Key;
 use boxes::NodeId;
+use call_lines::line;
+use call_lines::print;
+use call_lines::print::Buffer;
 use understory_index::Committed;
 use understory_index::Index;
 use understory_index::Inserted;
 use understory_index::Queried;
+
+// A box, if `is_read`.
+struct Corners {
+    is_read: bool,
+    aabb: Aabb2D,
+}
+
+// The box of four words.
+fn box_at(line: &[u8], word: usize) -> Corners
+    requires { ⌜ word ≤ 2 ⌝ }
+{
+    let b = line::four_at(line, word);
+    Corners {
+        is_read: b.is_read,
+        aabb: Aabb2D::new(b.x0, b.y0, b.x1, b.y1),
+    }
+}
 
 // How many numbers room for n boxes or n entries holds, four each; from 512 on all that there is.
 fn lent(n: u32) -> usize
@@ -52,7 +70,7 @@ fn clear(out: &mut Buffer, used: &mut usize, n: usize, ix: Index) -> Index {
     }
     let after = understory_index::clear(ix);
     let answer = after.answer;
-    print::answer(out, used, answer);
+    show::answer(out, used, answer);
     after.index
 }
 
@@ -67,7 +85,7 @@ fn room_line(out: &mut Buffer, used: &mut usize, line: &[u8], n: usize, ix: Inde
 }
 
 fn insert(out: &mut Buffer, used: &mut usize, line: &[u8], n: usize, ix: Index) -> Index {
-    let b = line::box_at(line, 1);
+    let b = box_at(line, 1);
     let p = line::pair_at(line, 5);
     if !((n == 6) & b.is_read & p.is_read) {
         return malformed(out, used, ix);
@@ -77,21 +95,21 @@ fn insert(out: &mut Buffer, used: &mut usize, line: &[u8], n: usize, ix: Index) 
     let answer = after.answer;
     match answer {
         Inserted::Key(k) => print::pair(out, used, k.0, k.1),
-        Inserted::Refused(r) => print::refused(out, used, r),
+        Inserted::Refused(r) => show::refused(out, used, r),
     }
     after.index
 }
 
 fn update(out: &mut Buffer, used: &mut usize, line: &[u8], n: usize, ix: Index) -> Index {
     let p = line::pair_at(line, 1);
-    let b = line::box_at(line, 2);
+    let b = box_at(line, 2);
     if !((n == 6) & p.is_read & b.is_read) {
         return malformed(out, used, ix);
     }
     let aabb = b.aabb;
     let after = understory_index::update(ix, Key(p.index, p.generation), aabb);
     let answer = after.answer;
-    print::answer(out, used, answer);
+    show::answer(out, used, answer);
     after.index
 }
 
@@ -102,7 +120,7 @@ fn remove(out: &mut Buffer, used: &mut usize, line: &[u8], n: usize, ix: Index) 
     }
     let after = understory_index::remove(ix, Key(p.index, p.generation));
     let answer = after.answer;
-    print::answer(out, used, answer);
+    show::answer(out, used, answer);
     after.index
 }
 
@@ -139,15 +157,15 @@ fn commit(out: &mut Buffer, used: &mut usize, n: usize, ix: Index, room: u32) ->
             &new,
             moves,
         ),
-        Committed::Refused(r) => print::refused(out, used, r),
+        Committed::Refused(r) => show::refused(out, used, r),
     }
     after.index
 }
 
 fn found(out: &mut Buffer, used: &mut usize, answer: Queried, room: &[u32; 2048]) {
     match answer {
-        Queried::Entries(n) => print::entries(out, used, room, n),
-        Queried::Refused(r) => print::refused(out, used, r),
+        Queried::Entries(n) => show::entries(out, used, room, n),
+        Queried::Refused(r) => show::refused(out, used, r),
     }
 }
 
@@ -190,7 +208,7 @@ fn query_rect(
     ix: Index,
     room: u32,
 ) -> Index {
-    let b = line::box_at(line, 1);
+    let b = box_at(line, 1);
     if !((n == 5) & b.is_read) {
         return malformed(out, used, ix);
     }
@@ -203,7 +221,7 @@ fn query_rect(
 pub(crate) fn room_after(line: &[u8], room: u32) -> u32 {
     let n = line::count(line);
     let w = line::decimal_at(line, 1);
-    let is_room = line::name(b"room", line) == 0;
+    let is_room = line::which(b"room", line, 0) == 0;
     if is_room & (n == 2) & w.is_read {
         w.value
     } else {
@@ -213,9 +231,10 @@ pub(crate) fn room_after(line: &[u8], room: u32) -> u32 {
 
 fn call(out: &mut Buffer, used: &mut usize, line: &[u8], ix: Index, room: u32) -> Index {
     let n = line::count(line);
-    match line::name(
+    match line::which(
         b"new clear room insert update remove commit query_point query_rect",
         line,
+        0,
     ) {
         0 => new(out, used, n, ix),
         1 => clear(out, used, n, ix),

@@ -1,26 +1,27 @@
 // A commit's answer: the boxes of each kind, and the union of them all.
-use crate::print;
-use crate::print::Buffer;
+use crate::show;
+use call_lines::print;
+use call_lines::print::Buffer;
 use cells::box_at;
 use index_damage::Joined;
 
 fn print_boxes(out: &mut Buffer, used: &mut usize, room: &[f64; 2048], n: usize) {
     print::count(out, used, n);
-    let most = print::at_most(n);
+    let most = show::at_most(n);
     let mut i = 0;
     while i < most {
-        print::corners(out, used, box_at(room, i));
+        show::corners(out, used, box_at(room, i));
         i += 1;
     }
 }
 
 fn print_pairs(out: &mut Buffer, used: &mut usize, old: &[f64; 2048], new: &[f64; 2048], n: usize) {
     print::count(out, used, n);
-    let most = print::at_most(n);
+    let most = show::at_most(n);
     let mut i = 0;
     while i < most {
-        print::corners(out, used, box_at(old, i));
-        print::corners(out, used, box_at(new, i));
+        show::corners(out, used, box_at(old, i));
+        show::corners(out, used, box_at(new, i));
         i += 1;
     }
 }
@@ -29,7 +30,7 @@ fn print_union(out: &mut Buffer, used: &mut usize, u: Joined) {
     print::text(out, used, b" union");
     match u {
         Joined::None => print::text(out, used, b" none"),
-        Joined::Some(aabb) => print::corners(out, used, aabb),
+        Joined::Some(aabb) => show::corners(out, used, aabb),
         Joined::ShortRoom => print::text(out, used, b" short"),
     }
 }

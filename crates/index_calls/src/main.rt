@@ -1,11 +1,12 @@
 // Answers a call list of the index alone, read on standard input, from the proved index: one answer for each call, a line each.
 // An empty line and a line that begins with `#` have no answer. A malformed line is answered `malformed` and changes nothing.
-mod line; // a line's words, and what they stand for
-mod print; // the parts of an answer
+mod show; // the parts of an answer
 mod damage; // a commit's answer
 mod calls; // each call
 
-use crate::print::Buffer;
+use call_lines::line;
+use call_lines::print;
+use call_lines::print::Buffer;
 use understory_index::Index;
 
 // What is known after a part of the input: how many bytes of the line that has begun are held, the room that is lent, and the index.
@@ -30,29 +31,13 @@ fn finish(out: &mut Buffer, used: &mut usize, space: &[u8], s: State) -> State {
     }
 }
 
-// Holds what comes after the first `held` bytes, and says how many are held. Of a line that is too long only the first bytes are
-// held: no call is so long.
-fn hold(space: &mut [u8], held: usize, part: &[u8]) -> usize {
-    let mut n = held;
-    let mut i = 0;
-    while i < part.len() {
-        if n >= space.len() {
-            return n;
-        }
-        space[n] = part[i];
-        n += 1;
-        i += 1;
-    }
-    n
-}
-
 // The lines of a block. The last may go on in the next block.
 fn feed(out: &mut Buffer, used: &mut usize, space: &mut [u8], start: State, block: &[u8]) -> State {
     let mut s = start;
     let mut at = 0;
     while at < block.len() {
         let end = bytes::scan::find(block, at, block.len(), b'\n');
-        s.length = hold(space, s.length, &block[at..end]);
+        s.length = line::hold(space, s.length, &block[at..end]);
         if end < block.len() {
             s = finish(out, used, space, s);
         }

@@ -82,6 +82,12 @@ pub enum Verdict {
     Refused(Refusal),
 }
 
+// What a call that changes the tree answers, and the tree after it.
+pub struct After {
+    pub answer: Verdict,
+    pub tree: Tree,
+}
+
 // An empty tree.
 pub fn fresh() -> Tree
     ensures { λ r. ⌜ r ≡ spec.freshTree ⌝ }

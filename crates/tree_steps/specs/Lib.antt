@@ -2,3 +2,4 @@ pub mod Setters
 pub mod Structure
 pub mod Commit
 pub mod Requests
+pub mod Readings

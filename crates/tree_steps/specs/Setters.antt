@@ -17,6 +17,7 @@ use Rattle.node_tables.specs.Tables.{rectAt, putRect, insetsAt, putInsets, affi
 use Rattle.tree_state.specs.declared.Locals.{Locals}
 use Rattle.tree_state.specs.declared.Marks.{Marks}
 use Rattle.tree_state.specs.declared.Tree.{Tree}
+use Rattle.tree_state.specs.declared.After.{After}
 use Rattle.tree_state.specs.declared.Refusal.the-variants as no
 use Rattle.tree_state.specs.declared.Verdict.{Verdict}
 use Rattle.tree_state.specs.declared.Verdict.the-variants as is
@@ -41,6 +42,10 @@ ofValue t i finite = checked (ofNode t i) finite no.NotFinite
 abbrev pub treeIf : Verdict → Tree → Tree → Tree
 treeIf is.Accepted done t = done
 treeIf (is.Refused r) done t = t
+
+-- what such a call answers, and the tree after it
+abbrev pub after : Verdict → Tree → Tree → After
+after v done t = record { answer = v; tree = treeIf v done t }
 
 -- ---- local records and marks
 

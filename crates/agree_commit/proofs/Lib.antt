@@ -1,0 +1,3 @@
+pub mod Visits
+pub mod Visited
+pub mod Known

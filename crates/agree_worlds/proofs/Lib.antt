@@ -1,0 +1,15 @@
+pub mod Turn
+pub mod Keyed
+pub mod Visits
+pub mod Fold
+pub mod Entries
+pub mod One
+pub mod Room
+pub mod Committed
+pub mod Others
+pub mod Left
+pub mod Owned
+pub mod Sound
+pub mod Numbers
+pub mod Freeing
+pub mod Known

@@ -1,0 +1,58 @@
+// The parts of an answer of the index.
+ghost use Prim.Native.Nat.{_≤_, _<_};
+use boxes::Aabb2D;
+use call_lines::print;
+use call_lines::print::Buffer;
+use understory_index::Answer;
+use understory_index::Refusal;
+
+// A space, and the box.
+pub(crate) fn corners(out: &mut Buffer, used: &mut usize, b: Aabb2D) {
+    print::text(out, used, b" ");
+    print::four(out, used, b.min_x, b.min_y, b.max_x, b.max_y);
+}
+
+// Document 01's number of a refusal.
+pub(crate) fn refused(out: &mut Buffer, used: &mut usize, r: Refusal) {
+    match r {
+        Refusal::Unsound => print::text(out, used, b"refused 1"),
+        Refusal::ShortRoom => print::text(out, used, b"refused 8"),
+        Refusal::DeadKey => print::text(out, used, b"refused 10"),
+        Refusal::Full => print::text(out, used, b"refused 11"),
+    }
+}
+
+pub(crate) fn answer(out: &mut Buffer, used: &mut usize, a: Answer) {
+    match a {
+        Answer::Done => print::text(out, used, b"ok"),
+        Answer::Refused(r) => refused(out, used, r),
+    }
+}
+
+// At most 512: there are never more boxes of a kind, and never more entries.
+pub(crate) fn at_most(n: usize) -> usize
+    ensures { λ r. ⌜ r ≤ 512 ⌝ }
+{
+    if n <= 512 { n } else { 512 }
+}
+
+// A space, a key, a space, and its payload.
+fn entry(out: &mut Buffer, used: &mut usize, room: &[u32; 2048], i: usize)
+    requires { ⌜ i < 512 ⌝ }
+{
+    print::text(out, used, b" ");
+    print::pair(out, used, room[i * 4], room[i * 4 + 1]);
+    print::text(out, used, b" ");
+    print::pair(out, used, room[i * 4 + 2], room[i * 4 + 3]);
+}
+
+// The entries of a query, four numbers each: key and payload.
+pub(crate) fn entries(out: &mut Buffer, used: &mut usize, room: &[u32; 2048], n: usize) {
+    print::count(out, used, n);
+    let most = at_most(n);
+    let mut i = 0;
+    while i < most {
+        entry(out, used, room, i);
+        i += 1;
+    }
+}

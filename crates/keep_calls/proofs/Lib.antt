@@ -1,0 +1,12 @@
+pub mod Counts
+pub mod Accepted
+pub mod Links
+pub mod Nodes
+pub mod Locals
+pub mod Marks
+pub mod Setters
+pub mod Reparent
+pub mod Slots
+pub mod Insert
+pub mod FreeList
+pub mod SetReads

@@ -1,0 +1,1 @@
+// No code: every accepted insert, reparent and setter keeps the tree sound and the lengths of its tables.

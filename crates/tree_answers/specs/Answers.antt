@@ -1,0 +1,128 @@
+-- The answers of the readings: the value where the call is accepted, else the refusal; and document 01's number of each.
+use Prim.Native.Nat.{ℕ}
+use mathlib.Core.Bool.{Bool}
+use mathlib.Core.List.{List, _∷_}
+use lib.IntN.{ℤ}
+use lib.ListN.{length, getD}
+use Rattle.geometry.specs.declared.rect.Rect.{Rect}
+use Rattle.geometry.specs.declared.insets.Insets.{Insets}
+use Rattle.transforms.specs.declared.affine.Affine.{Affine}
+use Rattle.clips.specs.declared.clip.Clip.{Clip}
+use Rattle.boxes.specs.declared.NodeId.{NodeId}
+use Rattle.box_types.specs.declared.NodeFlags.{NodeFlags}
+use Rattle.box_types.specs.declared.OptionNodeId.{OptionNodeId}
+use Rattle.box_types.specs.declared.OptionNodeId.the-variants as node
+use Rattle.tree_state.specs.declared.Verdict.{Verdict}
+use Rattle.tree_state.specs.declared.Verdict.the-variants as is
+use Rattle.tree_state.specs.Tree.{numberOf}
+use Rattle.tree_steps.specs.Requests.{idsInFront}
+use Rattle.tree_answers.specs.declared.AnswerBool.{AnswerBool}
+use Rattle.tree_answers.specs.declared.AnswerBool.the-variants as bool
+use Rattle.tree_answers.specs.declared.AnswerTransform.{AnswerTransform}
+use Rattle.tree_answers.specs.declared.AnswerTransform.the-variants as transform
+use Rattle.tree_answers.specs.declared.AnswerClip.{AnswerClip}
+use Rattle.tree_answers.specs.declared.AnswerClip.the-variants as clip
+use Rattle.tree_answers.specs.declared.AnswerRect.{AnswerRect}
+use Rattle.tree_answers.specs.declared.AnswerRect.the-variants as rect
+use Rattle.tree_answers.specs.declared.AnswerInsets.{AnswerInsets}
+use Rattle.tree_answers.specs.declared.AnswerInsets.the-variants as insets
+use Rattle.tree_answers.specs.declared.AnswerLevel.{AnswerLevel}
+use Rattle.tree_answers.specs.declared.AnswerLevel.the-variants as level
+use Rattle.tree_answers.specs.declared.AnswerFlags.{AnswerFlags}
+use Rattle.tree_answers.specs.declared.AnswerFlags.the-variants as flags
+use Rattle.tree_answers.specs.declared.AnswerNode.{AnswerNode}
+use Rattle.tree_answers.specs.declared.AnswerNode.the-variants as link
+use Rattle.tree_answers.specs.declared.AnswerIds.{AnswerIds}
+use Rattle.tree_answers.specs.declared.AnswerIds.the-variants as ids
+
+unfoldable pub boolIf : Verdict → Bool → AnswerBool
+boolIf is.Accepted b = bool.Value b
+boolIf (is.Refused r) b = bool.Refused r
+
+unfoldable pub transformIf : Verdict → Affine → AnswerTransform
+transformIf is.Accepted a = transform.Value a
+transformIf (is.Refused r) a = transform.Refused r
+
+unfoldable pub clipIf : Verdict → Clip → AnswerClip
+clipIf is.Accepted c = clip.Value c
+clipIf (is.Refused r) c = clip.Refused r
+
+unfoldable pub rectIf : Verdict → Rect → AnswerRect
+rectIf is.Accepted b = rect.Value b
+rectIf (is.Refused r) b = rect.Refused r
+
+unfoldable pub insetsIf : Verdict → Insets → AnswerInsets
+insetsIf is.Accepted s = insets.Value s
+insetsIf (is.Refused r) s = insets.Refused r
+
+unfoldable pub levelIf : Verdict → ℤ → AnswerLevel
+levelIf is.Accepted z = level.Value z
+levelIf (is.Refused r) z = level.Refused r
+
+unfoldable pub flagsIf : Verdict → NodeFlags → AnswerFlags
+flagsIf is.Accepted f = flags.Value f
+flagsIf (is.Refused r) f = flags.Refused r
+
+-- a node, or none
+unfoldable pub linkOf : OptionNodeId → AnswerNode
+linkOf node.None = link.None
+linkOf (node.Some i) = link.Some i
+
+unfoldable pub nodeIf : Verdict → OptionNodeId → AnswerNode
+nodeIf is.Accepted n = linkOf n
+nodeIf (is.Refused r) n = link.Refused r
+
+-- a slot's id, and that of the slot at a place, over the tables
+abbrev pub idOf : List ℕ → ℕ → NodeId
+idOf generation x = record { 0 = x; 1 = getD generation x 0 }
+
+abbrev pub idIn : List ℕ → List ℕ → ℕ → NodeId
+idIn order generation at = idOf generation (getD order at 0)
+
+-- how many ids stand in front of the room, and the room: a refused call leaves it as it was
+unfoldable pub idsIf : Verdict → List NodeId → AnswerIds
+idsIf is.Accepted l = ids.Ids (length l)
+idsIf (is.Refused r) l = ids.Refused r
+
+unfoldable pub roomIf : Verdict → List NodeId → List ℕ → List ℕ
+roomIf is.Accepted l room = idsInFront l room
+roomIf (is.Refused r) l room = room
+
+-- ---- document 01's number, 0 where the call is accepted
+
+unfoldable pub boolNumber : AnswerBool → ℕ
+boolNumber (bool.Value b) = 0
+boolNumber (bool.Refused r) = numberOf r
+
+unfoldable pub transformNumber : AnswerTransform → ℕ
+transformNumber (transform.Value a) = 0
+transformNumber (transform.Refused r) = numberOf r
+
+unfoldable pub clipNumber : AnswerClip → ℕ
+clipNumber (clip.Value c) = 0
+clipNumber (clip.Refused r) = numberOf r
+
+unfoldable pub rectNumber : AnswerRect → ℕ
+rectNumber (rect.Value b) = 0
+rectNumber (rect.Refused r) = numberOf r
+
+unfoldable pub insetsNumber : AnswerInsets → ℕ
+insetsNumber (insets.Value s) = 0
+insetsNumber (insets.Refused r) = numberOf r
+
+unfoldable pub levelNumber : AnswerLevel → ℕ
+levelNumber (level.Value z) = 0
+levelNumber (level.Refused r) = numberOf r
+
+unfoldable pub flagsNumber : AnswerFlags → ℕ
+flagsNumber (flags.Value f) = 0
+flagsNumber (flags.Refused r) = numberOf r
+
+unfoldable pub nodeNumber : AnswerNode → ℕ
+nodeNumber link.None = 0
+nodeNumber (link.Some i) = 0
+nodeNumber (link.Refused r) = numberOf r
+
+unfoldable pub idsNumber : AnswerIds → ℕ
+idsNumber (ids.Ids n) = 0
+idsNumber (ids.Refused r) = numberOf r

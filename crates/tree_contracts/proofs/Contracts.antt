@@ -1,0 +1,169 @@
+-- Each contract's definition is the run's (tree_run, specs/Run.antt): the tree after a call is `step`'s, its refusal and id `outcome`'s, and what a
+-- request tells, read off the answer and the room, `answer`'s. So demand 3 speaks of the calls as their contracts settle them.
+use mathlib.Core.Path.{_≡_, refl, sym, ap, _∙_}
+use mathlib.Core.List.{List, [], _∷_, _++_}
+use Prim.Native.Nat.{ℕ}
+use lib.IntN.{ℤ}
+use lib.ListN.{length, drop}
+use Rattle.geometry.specs.declared.point.Point.{Point}
+use Rattle.geometry.specs.declared.rect.Rect.{Rect}
+use Rattle.geometry.specs.declared.insets.Insets.{Insets}
+use Rattle.transforms.specs.declared.affine.Affine.{Affine}
+use Rattle.clips.specs.declared.clip.Clip.{Clip}
+use Rattle.boxes.specs.declared.NodeId.{NodeId}
+use Rattle.box_types.specs.declared.NodeFlags.{NodeFlags}
+use Rattle.box_types.specs.declared.LocalNode.{LocalNode}
+use Rattle.box_types.specs.declared.OptionNodeId.{OptionNodeId}
+use Rattle.tree_state.specs.declared.After.{After}
+use Rattle.tree_state.specs.declared.Tree.{Tree}
+use Rattle.tree_state.specs.declared.Verdict.{Verdict}
+use Rattle.tree_state.specs.declared.Verdict.the-variants as is
+use Rattle.tree_state.specs.Tree.{numberIn, numberOf, placeOf, idAt}
+use Rattle.tree_steps.specs.Setters as set
+use Rattle.tree_steps.specs.Structure as structure
+use Rattle.tree_steps.specs.Commit as steps
+use Rattle.tree_steps.specs.Requests as request
+use Rattle.tree_insert.specs.Insert as insert
+use Rattle.tree_commit.specs.Commit as commit
+use Rattle.tree_listings.specs.Listings as listing
+use Rattle.tree_taps.specs.Taps as tap
+use Rattle.tree_run.specs.Run as tree
+use Rattle.plan.specs.Calls as call
+use Rattle.plan.specs.Calls.{Call}
+use Rattle.plan.specs.Afresh.{hit}
+use Rattle.plan.specs.Demand.{Answer, refused, listed, tapped}
+use Rattle.tree_contracts.specs.Told.{insertTold, idsOf, listingTold, tapTold}
+
+abbrev listingIf : Verdict → List NodeId → Answer
+listingIf is.Accepted l = listed l
+listingIf (is.Refused r) l = refused (numberOf r)
+
+-- ---- a call that answers a verdict and leaves a tree
+
+-- the outcome's refusal is the verdict's number
+pub outcome-refused : (t : Tree) (c : Call) → tree.outcome t c .refused ≡ numberIn (tree.verdict t c)
+unfolding tree.outcome numberIn
+outcome-refused t c = go (tree.verdict t c)
+  where
+    go : (v : Verdict) → tree.outcomeIf v t c .refused ≡ numberIn v
+    go is.Accepted = refl
+    go (is.Refused r) = refl
+
+abbrev run : Tree → Call → After
+run t c = record { answer = tree.verdict t c; tree = tree.step t c }
+
+module _ (t : Tree) (i : NodeId) where
+  pub transform-is : (a : Affine) → set.after (set.transformVerdict t i a) (set.setTransform t (i .0) a) t ≡ run t (call.set-local-transform i a)
+  unfolding tree.step tree.verdict tree.accepted
+  transform-is a = refl
+
+  pub clip-is : (c : Clip) → set.after (set.clipVerdict t i c) (set.setClip t (i .0) c) t ≡ run t (call.set-local-clip i c)
+  unfolding tree.step tree.verdict tree.accepted
+  clip-is c = refl
+
+  pub bounds-is : (r : Rect) → set.after (set.boundsVerdict t i r) (set.setBounds t (i .0) r) t ≡ run t (call.set-local-bounds i r)
+  unfolding tree.step tree.verdict tree.accepted
+  bounds-is r = refl
+
+  pub slop-is : (s : Insets) → set.after (set.slopVerdict t i s) (set.setSlop t (i .0) s) t ≡ run t (call.set-hit-slop i s)
+  unfolding tree.step tree.verdict tree.accepted
+  slop-is s = refl
+
+  pub level-is : (z : ℤ) → set.after (set.ofNode t i) (set.setLevel t (i .0) z) t ≡ run t (call.set-z-index i z)
+  unfolding tree.step tree.verdict tree.accepted
+  level-is z = refl
+
+  pub flags-is : (f : NodeFlags) → set.after (set.flagsVerdict t i f) (set.setFlags t (i .0) f) t ≡ run t (call.set-flags i f)
+  unfolding tree.step tree.verdict tree.accepted
+  flags-is f = refl
+
+  pub remove-is : set.after (set.ofNode t i) (structure.removeTree t (placeOf t (i .0))) t ≡ run t (call.remove i)
+  unfolding tree.step tree.verdict tree.accepted
+  remove-is = refl
+
+  pub reparent-is : (o : OptionNodeId) → set.after (structure.reparentVerdict t i o) (structure.reparentTree t (i .0) o) t ≡ run t (call.reparent i o)
+  unfolding tree.step tree.verdict tree.accepted
+  reparent-is o = refl
+
+-- ---- insert and commit
+
+pub insert-leaves : (t : Tree) (o : OptionNodeId) (v : LocalNode) → insert.insertCall t o v .tree ≡ tree.step t (call.insert o v)
+unfolding insert.insertCall tree.step tree.verdict tree.accepted
+insert-leaves t o v = refl
+
+pub insert-tells : (t : Tree) (o : OptionNodeId) (v : LocalNode) → insertTold (insert.insertCall t o v .answer) ≡ tree.outcome t (call.insert o v)
+unfolding insert.insertCall tree.outcome tree.verdict insertTold
+insert-tells t o v = go (structure.insertVerdict t o v)
+  where
+    go : (w : Verdict) → insertTold (insert.inserted w (structure.newId t)) ≡ tree.outcomeIf w t (call.insert o v)
+    go is.Accepted = refl
+    go (is.Refused r) = refl
+
+pub commit-leaves : (t : Tree) (len : ℕ) → commit.commitCall t len .tree ≡ tree.step t (call.commit len)
+unfolding commit.commitCall commit.afterWork tree.step tree.verdict tree.accepted
+commit-leaves t len = go (steps.commitVerdict t len)
+  where
+    go : (v : Verdict) → commit.afterWork v t (steps.commitTree t) .tree ≡ set.treeIf v (steps.commitTree t .tree) t
+    go is.Accepted = refl
+    go (is.Refused r) = refl
+
+pub commit-tells : (t : Tree) (len : ℕ) → commit.committedNumber (commit.commitCall t len .answer) ≡ tree.outcome t (call.commit len) .refused
+unfolding commit.commitCall commit.afterWork commit.committedNumber tree.outcome tree.verdict
+commit-tells t len = go (steps.commitVerdict t len)
+  where
+    go : (v : Verdict) → commit.committedNumber (commit.afterWork v t (steps.commitTree t) .answer) ≡ tree.outcomeIf v t (call.commit len) .refused
+    go is.Accepted = refl
+    go (is.Refused r) = refl
+
+-- ---- listings
+
+pub ids-back : (l : List NodeId) (rest : List ℕ) → idsOf (length l) (request.numbersOf l ++ rest) ≡ l
+unfolding idsOf
+ids-back [] rest = refl
+ids-back (i ∷ l) rest = ap (λ (m : List NodeId). i ∷ m) (ids-back l rest)
+
+ids-front : (l : List NodeId) (room : List ℕ) → idsOf (length l) (request.idsInFront l room) ≡ l
+unfolding request.idsInFront
+ids-front l room = ids-back l (drop (length (request.numbersOf l)) room)
+
+-- the verdict's number, or the ids that stand in front of the room
+listing-tells : (v : Verdict) (l : List NodeId) (room : List ℕ) → listingTold (listing.listedIf v l) (listing.roomIf v l room) ≡ listingIf v l
+unfolding listingTold listing.listedIf listing.roomIf request.idsInFront
+listing-tells is.Accepted l room = ap listed (ids-back l (drop (length (request.numbersOf l)) room))
+listing-tells (is.Refused r) l room = refl
+
+module _ (t : Tree) (asked : NodeFlags) (room : List ℕ) where
+  abbrev v : Verdict
+  v = request.requestVerdict t asked (length room)
+
+  pub intersect-tells : (r : Rect) → let l = request.rectNodes t asked r in
+      listingTold (listing.listedIf v l) (listing.roomIf v l room) ≡ tree.answer t asked (length room) (call.intersect-rect r)
+  unfolding tree.answer
+  intersect-tells r = listing-tells v (request.rectNodes t asked r) room ∙ go v
+    where
+      go : (w : Verdict) → listingIf w (request.rectNodes t asked r) ≡ tree.answerIf w t asked (call.intersect-rect r)
+      go is.Accepted = refl
+      go (is.Refused q) = refl
+
+  pub containing-tells : (pt : Point) → let l = request.pointNodes t asked pt in
+      listingTold (listing.listedIf v l) (listing.roomIf v l room) ≡ tree.answer t asked (length room) (call.containing-point pt)
+  unfolding tree.answer
+  containing-tells pt = listing-tells v (request.pointNodes t asked pt) room ∙ go v
+    where
+      go : (w : Verdict) → listingIf w (request.pointNodes t asked pt) ≡ tree.answerIf w t asked (call.containing-point pt)
+      go is.Accepted = refl
+      go (is.Refused q) = refl
+
+  -- ---- taps
+  pub tap-tells : (pt : Point) → let b = request.hitNode t asked pt in
+      tapTold (tap.tappedIf v t b) (listing.roomIf v (request.pathOf t b) room) ≡ tree.answer t asked (length room) (call.hit-test-point pt)
+  unfolding tree.answer tapTold tap.tappedIf listing.roomIf
+  tap-tells pt = go v (request.hitNode t asked pt) refl
+    where
+      go : (w : Verdict) (b : request.Best) → request.hitNode t asked pt ≡ b
+          → tapTold (tap.tappedIf w t b) (listing.roomIf w (request.pathOf t b) room) ≡ tree.answerIf w t asked (call.hit-test-point pt)
+      go is.Accepted request.nobody e = sym (ap (λ (b : request.Best). tapped (tree.tapOf t b)) e)
+      go is.Accepted (request.best x) e =
+          ap (λ (l : List NodeId). tapped (hit (idAt t x) l)) (ids-front (request.pathTo t x) room)
+          ∙ sym (ap (λ (b : request.Best). tapped (tree.tapOf t b)) e)
+      go (is.Refused q) b e = refl

@@ -1,0 +1,48 @@
+-- What insert answers, and the tree after it.
+use Prim.Native.Nat.{ℕ, _+_, _<_}
+use mathlib.Core.Bool.{cond}
+use lib.Dec.{eqb}
+use Rattle.boxes.specs.declared.NodeId.{NodeId}
+use Rattle.box_types.specs.declared.LocalNode.{LocalNode}
+use Rattle.box_types.specs.declared.OptionNodeId.{OptionNodeId}
+use Rattle.box_types.specs.declared.OptionNodeId.the-variants as node
+use Rattle.tree_state.specs.declared.Slots.{Slots}
+use Rattle.tree_state.specs.declared.Tree.{Tree}
+use Rattle.tree_state.specs.declared.Verdict.{Verdict}
+use Rattle.tree_state.specs.declared.Verdict.the-variants as is
+use Rattle.tree_state.specs.Tree.{placeOf, numberOf}
+use Rattle.tree_steps.specs.Setters.{treeIf}
+use Rattle.tree_steps.specs.Structure.{slotOf, generationOf, newId, insertVerdict, insertTree}
+use Rattle.tree_insert.specs.declared.Inserted.{Inserted}
+use Rattle.tree_insert.specs.declared.Inserted.the-variants as inserts
+use Rattle.tree_insert.specs.declared.AfterInsert.{AfterInsert}
+
+-- document 01's number of an answer: 0 where the node is inserted
+unfoldable pub insertedNumber : Inserted → ℕ
+insertedNumber (inserts.Node i) = 0
+insertedNumber (inserts.Refused r) = numberOf r
+
+-- the answer to a call with this verdict, where i is the new node
+abbrev pub inserted : Verdict → NodeId → Inserted
+inserted is.Accepted i = inserts.Node i
+inserted (is.Refused r) i = inserts.Refused r
+
+unfoldable pub insertCall : Tree → OptionNodeId → LocalNode → AfterInsert
+insertCall t parent v =
+    record {
+      answer = inserted (insertVerdict t parent v) (newId t);
+      tree = treeIf (insertVerdict t parent v) (insertTree t parent v) t;
+    }
+
+-- ---- what the code's steps speak of
+
+abbrev pub idOf : Slots → NodeId
+idOf s = record { 0 = slotOf s; 1 = generationOf s }
+
+abbrev pub usedAfter : ℕ → ℕ → ℕ
+usedAfter frees used = cond (eqb frees 0) (used + 1) used
+
+-- the parent, if there is one, has a place
+abbrev pub Placed : Tree → OptionNodeId → Type 0
+Placed t node.None = Unit {0}
+Placed t (node.Some h) = placeOf t (h .0) < t .links .count

@@ -1,0 +1,65 @@
+// Tests that the public calls share: whether the tree is sound, the node live, the parent live.
+ghost use mathlib.Core.Path.{_≡_};
+ghost use mathlib.Core.Bool.{true};
+ghost use Prim.Native.Nat.{_≤_};
+ghost use lib.ListN.{length};
+ghost use Rattle.tree_state.specs.declared.Refusal.the-variants as no;
+ghost use Rattle.tree_state.specs.declared.Verdict.the-variants as is;
+ghost use Rattle.tree_state.specs.Sound.{soundTree};
+ghost use Rattle.tree_state.specs.Tree.{checked};
+ghost use Rattle.tree_steps.specs.Setters as spec;
+ghost use Rattle.tree_steps.specs.Structure.{parentLive};
+ghost use Rattle.tree_nodes.specs.Live.{LowSlots, liveIn};
+use box_types::OptionNodeId;
+use boxes::NodeId;
+use tree_state::Refusal;
+use tree_state::Tree;
+use tree_state::Verdict;
+
+// 1: the tree is sound.
+pub fn held(t: Tree) -> Verdict
+    ensures { λ r. ⌜ r ≡ spec.held t ⌝ }
+{
+    let sound = tree_sound::is_sound(t);
+    tree_state::check(Verdict::Accepted, sound, Refusal::Unsound)
+}
+
+// Inner: the slot is in the table, under the id's generation.
+pub fn is_live<'a>(order: &'a [u32; 256], n: usize, generation: &'a [u32; 256], i: NodeId) -> bool
+    requires { ⌜ (n ≤ 256) × (length (now order) ≡ 256) × LowSlots (now order) n ⌝ }
+    ensures { λ r. ⌜ r ≡ liveIn (now (order .entry)) n (now (generation .entry)) i ⌝ }
+{
+    let at = links::position(order, n, i.0);
+    if at >= n {
+        return false;
+    }
+    let x = i.0 as usize;
+    generation[x] == i.1
+}
+
+// 1, 2: the tree is sound and the node live.
+pub fn of_node(t: Tree, i: NodeId) -> Verdict
+    ensures { λ r. ⌜ r ≡ spec.ofNode t i ⌝ }
+{
+    let v = held(t);
+    let Verdict::Accepted = v else {
+        return v;
+    };
+    let live = is_live(&t.links.order, t.links.count, &t.slots.generation, i);
+    tree_state::check(v, live, Refusal::DeadNode)
+}
+
+// Inner: 3, after tests that have found the tree sound: the parent, if there is one, is live.
+pub fn of_parent(t: Tree, v: Verdict, parent: OptionNodeId) -> Verdict
+    requires { ⌜ (v ≡ is.Accepted → soundTree t ≡ true) ⌝ }
+    ensures { λ r. ⌜ r ≡ checked v (parentLive t parent) no.DeadParent ⌝ }
+{
+    let Verdict::Accepted = v else {
+        return v;
+    };
+    let OptionNodeId::Some(h) = parent else {
+        return v;
+    };
+    let live = is_live(&t.links.order, t.links.count, &t.slots.generation, h);
+    tree_state::check(v, live, Refusal::DeadParent)
+}

@@ -1,0 +1,66 @@
+// tree.rs's `reparent`, by value: a node with its subtree becomes the last child of its new parent or the last root, marked, and changed in both.
+// A refused call returns the tree as it was given.
+ghost use mathlib.Core.Path.{_≡_};
+ghost use mathlib.Core.Bool.{true};
+ghost use Prim.Native.Nat.{_<_, _≤_};
+ghost use lib.ListN.{take};
+ghost use Rattle.forest.specs.Table.{depthsFrom};
+ghost use Rattle.tree_state.specs.Tree.{placeOf};
+ghost use Rattle.tree_steps.specs.Setters.{after};
+ghost use Rattle.tree_steps.specs.Structure as step;
+ghost use Rattle.tree_reparent.specs.Below.{Outside};
+use box_types::OptionNodeId;
+use boxes::NodeId;
+use links::Links;
+use tree_state::After;
+use tree_state::Refusal;
+use tree_state::Tree;
+use tree_state::Verdict;
+
+// Whether the parent is the node at the place `at` or below it: two comparisons of places.
+fn is_below(t: Tree, at: usize, parent: OptionNodeId) -> bool
+    requires { ⌜ (at < t .links .count) × (t .links .count ≤ 256) ⌝ }
+    ensures { λ r. ⌜ r ≡ step.atOrBelow t at parent ⌝ }
+{
+    let OptionNodeId::Some(h) = parent else {
+        return false;
+    };
+    let to = links::position(&t.links.order, t.links.count, h.0);
+    let e = links::segment_end(&t.links.depth, t.links.count, at);
+    (at <= to) & (to < e)
+}
+
+// Last under the new parent, or last of the roots.
+fn move_links(t: Tree, at: usize, parent: OptionNodeId) -> Links
+    requires { ⌜ (at < t .links .count) × (t .links .count ≤ 256) × (depthsFrom 0 (take (t .links .count) (t .links .depth)) ≡ true) × Outside t at parent ⌝ }
+    ensures { λ r. ⌜ r ≡ step.moveLinks t at parent ⌝ }
+{
+    let l = t.links;
+    match parent {
+        OptionNodeId::None => links::move_root(l, at),
+        OptionNodeId::Some(h) => {
+            let to = links::position(&l.order, l.count, h.0);
+            links::move_last(l, at, to)
+        }
+    }
+}
+
+pub fn reparent(mut t: Tree, id: NodeId, parent: OptionNodeId) -> After
+    ensures { λ r. ⌜ r ≡ after (step.reparentVerdict t id parent) (step.reparentTree t (id .0) parent) t ⌝ }
+{
+    let node = tree_nodes::of_node(t, id);
+    let v = tree_nodes::of_parent(t, node, parent);
+    let Verdict::Accepted = v else {
+        return After { answer: v, tree: t };
+    };
+    let at = links::position(&t.links.order, t.links.count, id.0);
+    let w = tree_state::check(v, !is_below(t, at, parent), Refusal::BelowItself);
+    let Verdict::Accepted = w else {
+        return After { answer: w, tree: t };
+    };
+    let x = id.0 as usize;
+    let m = t.marks;
+    t.links = move_links(t, at, parent);
+    t.marks = tree_changes::mark_both(m, x);
+    After { answer: w, tree: t }
+}

@@ -1,0 +1,112 @@
+use native.Mathlib.Omega.{arith}
+use mathlib.Core.Path.{_≡_, sym, _∙_}
+use lib.ListN.{length}
+use Rattle.tree_state.specs.declared.Verdict.the-variants as is
+use Rattle.tree_steps.specs.Requests.{requestVerdict, hitNode, best}
+use Rattle.tree_nodes.proofs.Lengths.{sized}
+use Rattle.tree_need.proofs.Walks.{sound-places}
+use Rattle.tree_listings.proofs.Entries.{Accepted, accepted}
+use Rattle.tree_taps.specs.Taps.{Shown}
+use Rattle.tree_taps.proofs.Tap.{best-none, best-some, path-at}
+use Rattle.tree_taps.proofs.Answers.{refused, nothing, hit}
+use borrow.Author.Needs.{needs}
+use Rattle.tree_taps.proofs.hit_test_point.Statement.{statement}
+use Rattle.tree_taps.proofs.hit_test_point.Tie as tie
+
+verdict-requires : tie.Need-verdict-requires
+verdict-requires c κs = search needs
+
+enum-known-v : tie.Need-enum-known-v
+enum-known-v c = search needs
+
+returns : tie.Need-returns
+returns c =
+    let w = c .before .before .before in
+    let A = w .before .before .before .args in
+    let asked = A .filter .«required_flags» in
+    refused (requestVerdict (A .t1) asked (length (A .room .now))) (A .t1) (hitNode (A .t1) asked (A .point)) (A .room .now) _ (sym (w .verdict .ensures) ∙ c .before .v .given .1)
+
+enum-told : tie.Need-enum-told
+enum-told c = search needs
+
+-- the verdict
+yes : (c : tie.After-enum-told) → let A = c .before .before .before .before .before .args in requestVerdict (A .t1) (A .filter .«required_flags») (length (A .room .now)) ≡ is.Accepted
+yes c = sym (c .before .before .verdict .ensures) ∙ c .enum-told .given .1
+
+took : (c : tie.After-enum-told) → let A = c .before .before .before .before .before .args in Accepted (A .t1) (length (A .room .now))
+took c =
+    let s = c .before .before .before .before .before in
+    let A = s .args in
+    accepted (A .t1) (sized (A .t1) (s .good .0)) (A .filter .«required_flags») (length (A .room .now)) (yes c)
+
+strongest-requires : tie.Need-strongest-requires
+strongest-requires c κs = yes c
+
+returns-2 : tie.Need-returns-2
+returns-2 c =
+    let e = c .before .before in
+    let A = e .before .before .before .before .before .args in
+    let asked = A .filter .«required_flags» in
+    let S = c .before .strongest in
+    let n = rw (c .if1 .taken) at (S .ensures .0) in
+    nothing (requestVerdict (A .t1) asked (length (A .room .now))) (A .t1) (hitNode (A .t1) asked (A .point)) (A .room .now) (yes e) (sym n ∙ best-none (A .t1))
+
+-- the best is shown
+shown : (c : tie.Else1) → let A = c .before .before .before .before .before .before .before .args in Shown (A .t1 .links .order) (A .t1 .links .count) (c .before .strongest .result)
+shown c = c .before .strongest .ensures .1 (c .if1 .left)
+
+cast-x : tie.Need-cast-x
+cast-x c = omega (arith, shown c .0)
+
+position-requires : tie.Need-position-requires
+position-requires c κs =
+    let e = c .before .before .before .before in
+    let s = e .before .before .before .before .before in
+    let p = sound-places (s .args .t1) (sized (s .args .t1) (s .good .0)) (took e .whole .test) in
+    (p .0, p .1)
+
+id-of-requires : tie.Need-id-of-requires
+id-of-requires c κs = shown (c .before .before .before .before .before) .0
+
+write-path-requires : tie.Need-write-path-requires
+write-path-requires c κs =
+    let y = c .before .before .before .before .before .before .before .before .before .before .before in
+    let e = y .before .before in
+    let s = e .before .before .before .before .before in
+    let z = sized (s .args .t1) (s .good .0) in
+    let p = sound-places (s .args .t1) z (took e .whole .test) in
+    let at = c .before .before .before .before .before .before .before .before .position .ensures .1 in
+    (omega (arith, at, shown y .1), p .0, shown y .0, p .1, z .depth, took e .whole .depths, p .2, took e .long)
+
+same-length : tie.Need-same-length
+same-length c = search needs
+
+returns-3 : tie.Need-returns-3
+returns-3 c =
+    let y = c .before .before .before .before .before .before .before .before .before .before .before .before .before .before in
+    let e = y .before .before in
+    let A = e .before .before .before .before .before .args in
+    let asked = A .filter .«required_flags» in
+    let S = y .before .strongest in
+    let W = c .before .before .write-path in
+    let x = S .result in
+    let at = c .before .before .before .before .before .before .before .before .before .before .before .position .ensures .1 in
+    let E = rw (at, ← path-at (A .t1) x) at (W .ensures) in
+    hit (requestVerdict (A .t1) asked (length (A .room .now))) (A .t1) (hitNode (A .t1) asked (A .point)) (A .room .now) x _ _ _ (yes e) (sym (S .ensures .0) ∙ best-some (A .t1) x (y .if1 .left)) (c .before .before .before .before .before .before .before .before .id-of .ensures) (E .0) (E .1)
+
+pub hit-test-point-spec : {M : Type 1} → statement M
+hit-test-point-spec =
+    tie.close
+    (tie.spec
+    verdict-requires
+    enum-known-v
+    returns
+    enum-told
+    strongest-requires
+    returns-2
+    cast-x
+    position-requires
+    id-of-requires
+    write-path-requires
+    same-length
+    returns-3)

@@ -1,0 +1,12 @@
+pub mod Lent
+pub mod Members
+pub mod Steps
+pub mod Pushes
+pub mod Owner
+pub mod Walked
+pub mod Laws
+pub mod Cover
+pub mod Parents
+pub mod Slots
+pub mod Climb
+pub mod Whole

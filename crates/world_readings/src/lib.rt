@@ -1,0 +1,59 @@
+// The readings of world records (tree.rs), as the last commit stored them; refused while a commit is needed.
+ghost use mathlib.Core.Path.{_≡_};
+ghost use Rattle.tree_state.specs.Tree as tree;
+ghost use Rattle.tree_steps.specs.Readings as reading;
+ghost use Rattle.tree_answers.specs.Answers as spec;
+use boxes::NodeId;
+use tree_answers::AnswerRect;
+use tree_answers::AnswerTransform;
+use tree_state::Refusal;
+use tree_state::Tree;
+use tree_state::Verdict;
+
+// 1, 2, 7
+fn of_world(t: Tree, id: NodeId) -> Verdict
+    ensures { λ r. ⌜ r ≡ reading.worldVerdict t id ⌝ }
+{
+    let v = tree_nodes::of_node(t, id);
+    let Verdict::Accepted = v else {
+        return v;
+    };
+    let need = tree_need::needs_commit(t);
+    tree_state::check(v, !need, Refusal::NeedsCommit)
+}
+
+pub fn world_transform(t: Tree, id: NodeId) -> AnswerTransform
+    ensures { λ r. ⌜ r ≡ spec.transformIf (reading.worldVerdict t id) (tree.storedPlace t (id .0) .transform) ⌝ }
+{
+    match of_world(t, id) {
+        Verdict::Refused(r) => AnswerTransform::Refused(r),
+        Verdict::Accepted => AnswerTransform::Value(node_tables::affine_at(
+            &t.worlds.transform,
+            id.0 as usize,
+        )),
+    }
+}
+
+pub fn world_bounds(t: Tree, id: NodeId) -> AnswerRect
+    ensures { λ r. ⌜ r ≡ spec.rectIf (reading.worldVerdict t id) (tree.storedBounds t (id .0)) ⌝ }
+{
+    match of_world(t, id) {
+        Verdict::Refused(r) => AnswerRect::Refused(r),
+        Verdict::Accepted => AnswerRect::Value(node_tables::rect_at(
+            &t.worlds.bounds,
+            id.0 as usize,
+        )),
+    }
+}
+
+pub fn world_hit_bounds(t: Tree, id: NodeId) -> AnswerRect
+    ensures { λ r. ⌜ r ≡ spec.rectIf (reading.worldVerdict t id) (tree.storedHitBounds t (id .0)) ⌝ }
+{
+    match of_world(t, id) {
+        Verdict::Refused(r) => AnswerRect::Refused(r),
+        Verdict::Accepted => AnswerRect::Value(node_tables::rect_at(
+            &t.worlds.hit_bounds,
+            id.0 as usize,
+        )),
+    }
+}
