@@ -1,0 +1,1 @@
+// Lines of whole numbers, as the plan sheet has them.
