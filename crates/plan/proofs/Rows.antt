@@ -137,8 +137,10 @@ pub needed : (needs (root ∷ []) ≡ true)
     × (needs (root ∷ settle ∷ call.set-local-bounds a (rect (neg zero) zero (num 10) (num 10)) ∷ []) ≡ false)  -- −0 over +0
     × (needs (root ∷ call.commit 2047 ∷ []) ≡ true)  -- a refused commit
     × (needs (root ∷ settle ∷ call.reparent a node.None ∷ []) ≡ true)  -- a root moved to no parent is moved
+    × (needs (root ∷ settle ∷ call.set-local-transform a (shifted 1 0) ∷ settle ∷ []) ≡ false)  -- a second commit
+    × (needs (root ∷ root ∷ settle ∷ call.remove a ∷ settle ∷ []) ≡ false)
 unfolding num point id local ten turn shifted grown root child settle after next listing needs told tapped a b c run step refusal lowest accepted inserted removed moved committed needsCommit starts visits enter keep any joined upTo insertSorted sorted pre post has cat under remove roots spot hasAll finiteLocal stored finiteRect finiteInsets finiteAffine finiteClip finiteClipRect affineEq rectEq insetsEq clipEq clipRectEq constructed clipRect clipRadii fitted shaped quadrant excess insideRounded inside ordered intersection contains plusInsets noInsets mapped product inverse transformRectBbox containsPoint overlaps image meetOwn meet clipped placed worldBox hitBox reached placedOn worldBounds worldHitBounds inClips candidate larger largest tap meetsRect meetsPoint inEntryOrder listRect listPoint redactLocal redact minimum maximum magnitude round units odd size span climb neg add sub mul div eq le lt isNan
-needed = (refl, refl, refl, refl, refl, refl, refl, refl, refl)
+needed = (refl, refl, refl, refl, refl, refl, refl, refl, refl, refl, refl)
 
 -- the lowest number that applies
 pub refusals : (told [] (call.insert (node.Some a) (grown nan)) ≡ 3)
