@@ -1,0 +1,167 @@
+-- Document 01's examples P1 to P12, a row each, as one theorem. Rows about taps, ids and refusals speak of the tree's own run from fresh and go by
+-- demand 3, so the plan computes them.
+use mathlib.Core.Path.{_≡_, refl, _∙_}
+use mathlib.Core.Bool.{Bool, true, false}
+use mathlib.Core.List.{List, [], _∷_, map}
+use Prim.Native.Nat.{ℕ}
+use lib.IntN.{pos}
+use lib.ListN.{getD}
+use lib.Ieee.{Float, binary64, ofInt, round, units, odd, size, span, climb, neg, add, sub, mul, div, eq, le, lt, isNan}
+use Rattle.numbers.specs.Rounded.{zero}
+use Rattle.numbers.specs.Number.{minimum, maximum, magnitude}
+use Rattle.geometry.specs.declared.point.Point.{Point}
+use Rattle.geometry.specs.Rectangle.{rect, ordered, intersection, contains, plusInsets, noInsets, finiteRect, finiteInsets}
+use Rattle.transforms.specs.Transform.{mapped, product, inverse, transformRectBbox, finiteAffine}
+use Rattle.clips.specs.Clips.{clipRect, clipRadii, fitted, shaped, constructed, quadrant, excess, insideRounded, inside, finiteClipRect, finiteClip}
+use Rattle.boxes.specs.declared.NodeId.{NodeId}
+use Rattle.boxes.specs.Boxes.{containsPoint}
+use Rattle.worlds.specs.World.{image, meetOwn, meet, clipped, placed, worldBox, hitBox, reached}
+use Rattle.box_types.specs.declared.NodeFlags.{NodeFlags}
+use Rattle.box_types.specs.declared.OptionNodeId.{OptionNodeId}
+use Rattle.box_types.specs.declared.OptionNodeId.the-variants as node
+use Rattle.box_types.specs.Local.{flags, hasAll, finiteLocal, stored}
+use Rattle.forest.specs.Forest.{pre, post, has, cat, under, remove, roots, spot}
+use Rattle.understory_index.specs.Index as index
+use Rattle.understory_index.specs.Run as list
+use Rattle.index_rows.proofs.Rows as entries
+use Rattle.tree_state.specs.Tree.{freshTree, placeOf}
+use Rattle.tree_steps.specs.Commit.{commitTree}
+use Rattle.tree_steps.specs.Readings.{childrenOf, nextOf}
+use Rattle.tree_run.specs.Run as tree
+use Rattle.tree_rows.proofs.Rows.{after}
+use Rattle.tree_rows.proofs.Damage as rows
+use Rattle.plan.specs.Lists.{keep, any, joined, insertSorted, sorted}
+use Rattle.plan.specs.Plan.{Plan, empty, needsCommit, inserted, removed, moved}
+use Rattle.plan.specs.Visits.{starts, visits, enter, committed}
+use Rattle.plan.specs.Afresh.{worldPlace, placedOn, worldBounds, worldHitBounds, inClips, candidate, larger, largest, nothing, hit, tap, redactLocal, redact}
+use Rattle.plan.specs.Calls as call
+use Rattle.plan.specs.Calls.{Call, Outcome, lowest, refusal, accepted, step, outcome}
+use Rattle.plan.specs.Demand.{Answer, tapped, run, outcomes, answer}
+use Rattle.plan.proofs.Rows.{num, point, id, local, ten, turn, shifted, root, child, settle, a, b, c, halfClip}
+use Rattle.sheet_lines.specs.Lines as lines
+use Rattle.plan_sheet.specs.Sheet as sheet
+use Rattle.plan_sheet.specs.Sheet.{readSheet}
+use Rattle.sheet_calls.specs.Calls as calls
+use Rattle.sheet_calls.specs.Answers.{bytes, output, planOf, tapOn, digitsUpTo, decimal, lineOf, tapLines, sheetText}
+use Rattle.demand3.proofs.Theorem.{demand-3}
+use Rattle.examples.proofs.Flat.{flat, no-candidate}
+
+-- ---- words for the rows: a run of the tree from fresh
+
+-- each call's refusal, or 0, and the id it hands out
+abbrev pub told : ℕ → OptionNodeId → Outcome
+told n i = record { refused = n; id = i }
+
+abbrev pub answers : List Call → List Outcome
+answers cs = outcomes tree.step tree.outcome freshTree cs
+
+-- a tap of visible, pickable nodes
+abbrev pub tapAt : List Call → Point → Answer
+tapAt cs pt = tree.answer (after cs) (flags 3) 512 (call.hit-test-point pt)
+
+abbrev pub given : NodeId → Outcome
+given i = told 0 (node.Some i)
+
+abbrev pub exampleSheet : List ℕ
+exampleSheet = bytes "2\n0 0 0 0 0 0 100 100 0 0 3\n1 1 100 0 0 0 40 20 0 0 3\n0\n4\n90 10 3\n100 10 3\n80 10 3\n200 200 3\n"
+
+abbrev pub planIn : sheet.Read → Plan
+planIn (sheet.refused r at) = empty
+planIn (sheet.sheet s) = planOf s
+
+pub record Examples : Type 0 where
+  -- Fresh tree: commit gives no damage.
+  pub p1 : commitTree freshTree .damage ≡ []
+  -- First insert: id (0, 1); committed depth 1.
+  pub p2 : (answers (root ∷ settle ∷ []) ≡ given (id 0 1) ∷ told 0 node.None ∷ [])
+      × (getD (after (root ∷ settle ∷ []) .links .depth) (placeOf (after (root ∷ settle ∷ [])) 0) 0 ≡ 1)
+  -- A, child B; remove A; the next inserts give (0, 2), (1, 2).
+  pub p3 : answers (root ∷ child a ∷ call.remove a ∷ root ∷ root ∷ [])
+      ≡ given (id 0 1) ∷ given (id 1 1) ∷ told 0 node.None ∷ given (id 0 2) ∷ given (id 1 2) ∷ []
+  -- A under its child, A under A: 4.
+  pub p4 : answers (root ∷ child a ∷ call.reparent a (node.Some b) ∷ call.reparent a (node.Some a) ∷ [])
+      ≡ given a ∷ given b ∷ told 4 node.None ∷ told 4 node.None ∷ []
+  -- Children B, C; B reparented to the same parent: C, B.
+  pub p5 : childrenOf (after (root ∷ child a ∷ child a ∷ call.reparent b (node.Some a) ∷ [])) 0 ≡ c ∷ b ∷ []
+  -- The sheet above: place 2 has world box 80, 0, 100, 40; and its answers.
+  pub p6 : (worldBounds (planIn (readSheet exampleSheet)) 1 ≡ rect (num 80) zero (num 100) (num 40))
+      × (output exampleSheet ≡ bytes "4\n1 2 2\n2 2 2\n3 1 1\n4 0 0\n")
+  -- Bounds 0 to 20, square clip 0 to 10 both ways, identity: (10, 10) hits, (10.5, 10) doesn't.
+  pub p7 : (tapAt halfClip (point 10 10) ≡ tapped (hit a (a ∷ [])))
+      × (tapAt halfClip (record { x = round binary64 false 21 2; y = num 10 }) ≡ tapped nothing)
+  -- All-zero linear part: no tap hits.
+  pub p8 : (p : Plan) (x : ℕ) (e f : Float) → worldPlace p x .transform ≡ flat e f → (asked : NodeFlags) (pt : Point) → candidate p asked pt x ≡ false
+  -- Equal level and depth: (0, 2) beats (1, 1).
+  pub p9 : tapAt (root ∷ root ∷ call.remove a ∷ root ∷ settle ∷ []) (point 5 5) ≡ tapped (hit (id 0 2) (id 0 2 ∷ []))
+  -- After the last leaf of a root, `next_depth_first` gives none.
+  pub p10 : nextOf (after (root ∷ child a ∷ root ∷ [])) 1 ≡ node.None
+  -- Index: committed entry removed, then updated, commit: it lives with the new box and no damage.
+  pub p11 : let calls = entries.add 10 ∷ entries.settle ∷ list.remove entries.first ∷ list.update entries.first (entries.box 20) ∷ [] in
+      (entries.found calls ≡ [] ∷ [] ∷ [] ∷ [] ∷ [])
+      × (index.live (entries.done (entries.add 10 ∷ entries.settle ∷ list.remove entries.first ∷ list.update entries.first (entries.box 20) ∷ entries.settle ∷ [])) entries.first ≡ true)
+      × (index.rectSlots (entries.done (entries.add 10 ∷ entries.settle ∷ list.remove entries.first ∷ list.update entries.first (entries.box 20) ∷ entries.settle ∷ [])) (entries.box 20) ≡ 0 ∷ [])
+      × (index.rectSlots (entries.done (entries.add 10 ∷ entries.settle ∷ list.remove entries.first ∷ list.update entries.first (entries.box 20) ∷ entries.settle ∷ [])) (entries.box 10) ≡ [])
+  -- Updated, then removed: damage shows the box before the update.
+  pub p12 : entries.found (entries.add 10 ∷ entries.settle ∷ list.update entries.first (entries.box 20) ∷ list.remove entries.first ∷ [])
+      ≡ [] ∷ (entries.box 10 ∷ []) ∷ [] ∷ [] ∷ []
+
+-- ---- the rows that go by demand 3: the plan computes them
+
+by-plan : (cs : List Call) (os : List Outcome) → outcomes step outcome empty cs ≡ os → answers cs ≡ os
+by-plan cs os e = demand-3 .alike cs ∙ e
+
+tap-by-plan : (cs : List Call) (pt : Point) (r : Answer) → answer (redact (flags 3) (run step empty cs)) (flags 3) 512 (call.hit-test-point pt) ≡ r → tapAt cs pt ≡ r
+unfolding after
+tap-by-plan cs pt r e = demand-3 .answered cs (flags 3) 512 (call.hit-test-point pt) ∙ e
+
+ids-2 : answers (root ∷ settle ∷ []) ≡ given (id 0 1) ∷ told 0 node.None ∷ []
+unfolding num point id local ten turn shifted root child settle a b c halfClip run outcomes step refusal lowest accepted inserted removed moved committed needsCommit starts visits enter keep any joined insertSorted sorted pre post has cat under remove roots spot hasAll finiteLocal stored finiteRect finiteInsets finiteAffine finiteClip finiteClipRect constructed clipRect clipRadii fitted shaped quadrant excess insideRounded inside ordered intersection contains plusInsets noInsets mapped product inverse transformRectBbox containsPoint image meetOwn meet clipped placed worldBox hitBox reached placedOn worldBounds worldHitBounds inClips candidate larger largest tap redactLocal redact minimum maximum magnitude round units odd size span climb neg add sub mul div eq le lt isNan outcome answer
+ids-2 = by-plan (root ∷ settle ∷ []) (given (id 0 1) ∷ told 0 node.None ∷ []) refl
+
+ids-3 : answers (root ∷ child a ∷ call.remove a ∷ root ∷ root ∷ [])
+    ≡ given (id 0 1) ∷ given (id 1 1) ∷ told 0 node.None ∷ given (id 0 2) ∷ given (id 1 2) ∷ []
+unfolding num point id local ten turn shifted root child settle a b c halfClip run outcomes step refusal lowest accepted inserted removed moved committed needsCommit starts visits enter keep any joined insertSorted sorted pre post has cat under remove roots spot hasAll finiteLocal stored finiteRect finiteInsets finiteAffine finiteClip finiteClipRect constructed clipRect clipRadii fitted shaped quadrant excess insideRounded inside ordered intersection contains plusInsets noInsets mapped product inverse transformRectBbox containsPoint image meetOwn meet clipped placed worldBox hitBox reached placedOn worldBounds worldHitBounds inClips candidate larger largest tap redactLocal redact minimum maximum magnitude round units odd size span climb neg add sub mul div eq le lt isNan outcome answer
+ids-3 =
+    by-plan (root ∷ child a ∷ call.remove a ∷ root ∷ root ∷ [])
+    (given (id 0 1) ∷ given (id 1 1) ∷ told 0 node.None ∷ given (id 0 2) ∷ given (id 1 2) ∷ []) refl
+
+refused-4 : answers (root ∷ child a ∷ call.reparent a (node.Some b) ∷ call.reparent a (node.Some a) ∷ [])
+    ≡ given a ∷ given b ∷ told 4 node.None ∷ told 4 node.None ∷ []
+unfolding num point id local ten turn shifted root child settle a b c halfClip run outcomes step refusal lowest accepted inserted removed moved committed needsCommit starts visits enter keep any joined insertSorted sorted pre post has cat under remove roots spot hasAll finiteLocal stored finiteRect finiteInsets finiteAffine finiteClip finiteClipRect constructed clipRect clipRadii fitted shaped quadrant excess insideRounded inside ordered intersection contains plusInsets noInsets mapped product inverse transformRectBbox containsPoint image meetOwn meet clipped placed worldBox hitBox reached placedOn worldBounds worldHitBounds inClips candidate larger largest tap redactLocal redact minimum maximum magnitude round units odd size span climb neg add sub mul div eq le lt isNan outcome answer
+refused-4 =
+    by-plan (root ∷ child a ∷ call.reparent a (node.Some b) ∷ call.reparent a (node.Some a) ∷ [])
+    (given a ∷ given b ∷ told 4 node.None ∷ told 4 node.None ∷ []) refl
+
+sheet-6 : (worldBounds (planIn (readSheet exampleSheet)) 1 ≡ rect (num 80) zero (num 100) (num 40))
+    × (output exampleSheet ≡ bytes "4\n1 2 2\n2 2 2\n3 1 1\n4 0 0\n")
+unfolding num point id local ten turn shifted root child settle a b c halfClip run outcomes step refusal lowest accepted inserted removed moved committed needsCommit starts visits enter keep any joined insertSorted sorted pre post has cat under remove roots spot hasAll finiteLocal stored finiteRect finiteInsets finiteAffine finiteClip finiteClipRect constructed clipRect clipRadii fitted shaped quadrant excess insideRounded inside ordered intersection contains plusInsets noInsets mapped product inverse transformRectBbox containsPoint image meetOwn meet clipped placed worldBox hitBox reached placedOn worldBounds worldHitBounds inClips candidate larger largest tap redactLocal redact minimum maximum magnitude round units odd size span climb neg add sub mul div eq le lt isNan outcome answer output planOf tapOn digitsUpTo decimal lineOf tapLines sheetText sheet.readSheet sheet.counted sheet.section sheet.judge sheet.placeOf sheet.clipOf sheet.tapOf sheet.placeInRange sheet.clipInRange sheet.tapInRange sheet.parentEarlier sheet.clippedBefore sheet.clipPlaceOpen lines.cut lines.fields lines.numbersOf lines.wordsOf lines.decimal lines.positive lines.digitsAfter calls.turns calls.orientation calls.clipOn calls.clipFor calls.localOf calls.insertOf calls.insertsFrom calls.callsOf ofInt
+sheet-6 = (refl, refl)
+
+taps-7 : (tapAt halfClip (point 10 10) ≡ tapped (hit a (a ∷ [])))
+    × (tapAt halfClip (record { x = round binary64 false 21 2; y = num 10 }) ≡ tapped nothing)
+unfolding num point id local ten turn shifted root child settle a b c halfClip run outcomes step refusal lowest accepted inserted removed moved committed needsCommit starts visits enter keep any joined insertSorted sorted pre post has cat under remove roots spot hasAll finiteLocal stored finiteRect finiteInsets finiteAffine finiteClip finiteClipRect constructed clipRect clipRadii fitted shaped quadrant excess insideRounded inside ordered intersection contains plusInsets noInsets mapped product inverse transformRectBbox containsPoint image meetOwn meet clipped placed worldBox hitBox reached placedOn worldBounds worldHitBounds inClips candidate larger largest tap redactLocal redact minimum maximum magnitude round units odd size span climb neg add sub mul div eq le lt isNan outcome answer
+taps-7 =
+    (tap-by-plan halfClip (point 10 10) (tapped (hit a (a ∷ []))) refl, tap-by-plan halfClip (record { x = round binary64 false 21 2; y = num 10 }) (tapped nothing) refl)
+
+tap-9 : tapAt (root ∷ root ∷ call.remove a ∷ root ∷ settle ∷ []) (point 5 5) ≡ tapped (hit (id 0 2) (id 0 2 ∷ []))
+unfolding num point id local ten turn shifted root child settle a b c halfClip run outcomes step refusal lowest accepted inserted removed moved committed needsCommit starts visits enter keep any joined insertSorted sorted pre post has cat under remove roots spot hasAll finiteLocal stored finiteRect finiteInsets finiteAffine finiteClip finiteClipRect constructed clipRect clipRadii fitted shaped quadrant excess insideRounded inside ordered intersection contains plusInsets noInsets mapped product inverse transformRectBbox containsPoint image meetOwn meet clipped placed worldBox hitBox reached placedOn worldBounds worldHitBounds inClips candidate larger largest tap redactLocal redact minimum maximum magnitude round units odd size span climb neg add sub mul div eq le lt isNan outcome answer
+tap-9 = tap-by-plan (root ∷ root ∷ call.remove a ∷ root ∷ settle ∷ []) (point 5 5) (tapped (hit (id 0 2) (id 0 2 ∷ []))) refl
+
+-- ---- the theorem
+
+pub examples : Examples
+examples =
+    record {
+      p1 = rows.p1;
+      p2 = (ids-2, rows.p2);
+      p3 = ids-3;
+      p4 = refused-4;
+      p5 = rows.p5;
+      p6 = sheet-6;
+      p7 = taps-7;
+      p8 = no-candidate;
+      p9 = tap-9;
+      p10 = rows.p10 .0;
+      p11 = (entries.p11-p12 .0, entries.p11-p12 .1, entries.p11-p12 .2, entries.p11-p12 .3);
+      p12 = entries.p11-p12 .4;
+    }
