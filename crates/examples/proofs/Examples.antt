@@ -42,9 +42,10 @@ use Rattle.sheet_lines.specs.Lines as lines
 use Rattle.plan_sheet.specs.Sheet as sheet
 use Rattle.plan_sheet.specs.Sheet.{readSheet}
 use Rattle.sheet_calls.specs.Calls as calls
+use Rattle.sheet_calls.specs.Calls.{callsOf}
 use Rattle.sheet_calls.specs.Answers.{bytes, output, planOf, tapOn, digitsUpTo, decimal, lineOf, tapLines, sheetText}
 use Rattle.demand3.proofs.Theorem.{demand-3}
-use Rattle.examples.proofs.Flat.{flat, no-candidate}
+use Rattle.examples.proofs.Flat.{Flat, no-candidate}
 
 -- ---- words for the rows: a run of the tree from fresh
 
@@ -65,9 +66,10 @@ given i = told 0 (node.Some i)
 abbrev pub exampleSheet : List ℕ
 exampleSheet = bytes "2\n0 0 0 0 0 0 100 100 0 0 3\n1 1 100 0 0 0 40 20 0 0 3\n0\n4\n90 10 3\n100 10 3\n80 10 3\n200 200 3\n"
 
-abbrev pub planIn : sheet.Read → Plan
-planIn (sheet.refused r at) = empty
-planIn (sheet.sheet s) = planOf s
+-- the calls of a sheet that is read
+abbrev pub callsIn : sheet.Read → List Call
+callsIn (sheet.refused r at) = []
+callsIn (sheet.sheet s) = callsOf s
 
 pub record Examples : Type 0 where
   -- Fresh tree: commit gives no damage.
@@ -84,13 +86,17 @@ pub record Examples : Type 0 where
   -- Children B, C; B reparented to the same parent: C, B.
   pub p5 : childrenOf (after (root ∷ child a ∷ child a ∷ call.reparent b (node.Some a) ∷ [])) 0 ≡ c ∷ b ∷ []
   -- The sheet above: place 2 has world box 80, 0, 100, 40; and its answers.
-  pub p6 : (worldBounds (planIn (readSheet exampleSheet)) 1 ≡ rect (num 80) zero (num 100) (num 40))
+  pub p6 : (worldBounds (run step empty (callsIn (readSheet exampleSheet))) 1 ≡ rect (num 80) zero (num 100) (num 40))
       × (output exampleSheet ≡ bytes "4\n1 2 2\n2 2 2\n3 1 1\n4 0 0\n")
+      × (tapAt (callsIn (readSheet exampleSheet)) (point 90 10) ≡ tapped (hit b (a ∷ b ∷ [])))
+      × (tapAt (callsIn (readSheet exampleSheet)) (point 100 10) ≡ tapped (hit b (a ∷ b ∷ [])))
+      × (tapAt (callsIn (readSheet exampleSheet)) (point 80 10) ≡ tapped (hit a (a ∷ [])))
+      × (tapAt (callsIn (readSheet exampleSheet)) (point 200 200) ≡ tapped nothing)
   -- Bounds 0 to 20, square clip 0 to 10 both ways, identity: (10, 10) hits, (10.5, 10) doesn't.
   pub p7 : (tapAt halfClip (point 10 10) ≡ tapped (hit a (a ∷ [])))
       × (tapAt halfClip (record { x = round binary64 false 21 2; y = num 10 }) ≡ tapped nothing)
   -- All-zero linear part: no tap hits.
-  pub p8 : (p : Plan) (x : ℕ) (e f : Float) → worldPlace p x .transform ≡ flat e f → (asked : NodeFlags) (pt : Point) → candidate p asked pt x ≡ false
+  pub p8 : (p : Plan) (x : ℕ) → Flat (p .local x .«local_transform») → (asked : NodeFlags) (pt : Point) → candidate p asked pt x ≡ false
   -- Equal level and depth: (0, 2) beats (1, 1).
   pub p9 : tapAt (root ∷ root ∷ call.remove a ∷ root ∷ settle ∷ []) (point 5 5) ≡ tapped (hit (id 0 2) (id 0 2 ∷ []))
   -- After the last leaf of a root, `next_depth_first` gives none.
@@ -132,10 +138,23 @@ refused-4 =
     by-plan (root ∷ child a ∷ call.reparent a (node.Some b) ∷ call.reparent a (node.Some a) ∷ [])
     (given a ∷ given b ∷ told 4 node.None ∷ told 4 node.None ∷ []) refl
 
-sheet-6 : (worldBounds (planIn (readSheet exampleSheet)) 1 ≡ rect (num 80) zero (num 100) (num 40))
+sheet-6 : (worldBounds (run step empty (callsIn (readSheet exampleSheet))) 1 ≡ rect (num 80) zero (num 100) (num 40))
     × (output exampleSheet ≡ bytes "4\n1 2 2\n2 2 2\n3 1 1\n4 0 0\n")
 unfolding num point id local ten turn shifted root child settle a b c halfClip run outcomes step refusal lowest accepted inserted removed moved committed needsCommit starts visits enter keep any joined insertSorted sorted pre post has cat under remove roots spot hasAll finiteLocal stored finiteRect finiteInsets finiteAffine finiteClip finiteClipRect constructed clipRect clipRadii fitted shaped quadrant excess insideRounded inside ordered intersection contains plusInsets noInsets mapped product inverse transformRectBbox containsPoint image meetOwn meet clipped placed worldBox hitBox reached placedOn worldBounds worldHitBounds inClips candidate larger largest tap redactLocal redact minimum maximum magnitude round units odd size span climb neg add sub mul div eq le lt isNan outcome answer output planOf tapOn digitsUpTo decimal lineOf tapLines sheetText sheet.readSheet sheet.counted sheet.section sheet.judge sheet.placeOf sheet.clipOf sheet.tapOf sheet.placeInRange sheet.clipInRange sheet.tapInRange sheet.parentEarlier sheet.clippedBefore sheet.clipPlaceOpen lines.cut lines.fields lines.numbersOf lines.wordsOf lines.decimal lines.positive lines.digitsAfter calls.turns calls.orientation calls.clipOn calls.clipFor calls.localOf calls.insertOf calls.insertsFrom calls.callsOf ofInt
 sheet-6 = (refl, refl)
+
+-- a tap of the example's tree
+sheet-tap : (x y : ℕ) (r : Answer) → answer (redact (flags 3) (run step empty (callsIn (readSheet exampleSheet)))) (flags 3) 512 (call.hit-test-point (point x y)) ≡ r
+    → tapAt (callsIn (readSheet exampleSheet)) (point x y) ≡ r
+sheet-tap x y r e = tap-by-plan (callsIn (readSheet exampleSheet)) (point x y) r e
+
+sheet-taps : (tapAt (callsIn (readSheet exampleSheet)) (point 90 10) ≡ tapped (hit b (a ∷ b ∷ [])))
+    × (tapAt (callsIn (readSheet exampleSheet)) (point 100 10) ≡ tapped (hit b (a ∷ b ∷ [])))
+    × (tapAt (callsIn (readSheet exampleSheet)) (point 80 10) ≡ tapped (hit a (a ∷ [])))
+    × (tapAt (callsIn (readSheet exampleSheet)) (point 200 200) ≡ tapped nothing)
+unfolding num point id local ten turn shifted root child settle a b c halfClip run outcomes step refusal lowest accepted inserted removed moved committed needsCommit starts visits enter keep any joined insertSorted sorted pre post has cat under remove roots spot hasAll finiteLocal stored finiteRect finiteInsets finiteAffine finiteClip finiteClipRect constructed clipRect clipRadii fitted shaped quadrant excess insideRounded inside ordered intersection contains plusInsets noInsets mapped product inverse transformRectBbox containsPoint image meetOwn meet clipped placed worldBox hitBox reached placedOn worldBounds worldHitBounds inClips candidate larger largest tap redactLocal redact minimum maximum magnitude round units odd size span climb neg add sub mul div eq le lt isNan outcome answer output planOf tapOn digitsUpTo decimal lineOf tapLines sheetText sheet.readSheet sheet.counted sheet.section sheet.judge sheet.placeOf sheet.clipOf sheet.tapOf sheet.placeInRange sheet.clipInRange sheet.tapInRange sheet.parentEarlier sheet.clippedBefore sheet.clipPlaceOpen lines.cut lines.fields lines.numbersOf lines.wordsOf lines.decimal lines.positive lines.digitsAfter calls.turns calls.orientation calls.clipOn calls.clipFor calls.localOf calls.insertOf calls.insertsFrom calls.callsOf ofInt
+sheet-taps =
+    (sheet-tap 90 10 (tapped (hit b (a ∷ b ∷ []))) refl, sheet-tap 100 10 (tapped (hit b (a ∷ b ∷ []))) refl, sheet-tap 80 10 (tapped (hit a (a ∷ []))) refl, sheet-tap 200 200 (tapped nothing) refl)
 
 taps-7 : (tapAt halfClip (point 10 10) ≡ tapped (hit a (a ∷ [])))
     × (tapAt halfClip (record { x = round binary64 false 21 2; y = num 10 }) ≡ tapped nothing)
@@ -157,7 +176,7 @@ examples =
       p3 = ids-3;
       p4 = refused-4;
       p5 = rows.p5;
-      p6 = sheet-6;
+      p6 = (sheet-6 .0, sheet-6 .1, sheet-taps .0, sheet-taps .1, sheet-taps .2, sheet-taps .3);
       p7 = taps-7;
       p8 = no-candidate;
       p9 = tap-9;

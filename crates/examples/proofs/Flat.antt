@@ -1,31 +1,157 @@
--- P8: under a world transform whose linear part is all zero no point is mapped back to a point, so such a node is no candidate of any tap.
-use mathlib.Core.Path.{_≡_, refl, _∙_}
-use mathlib.Core.Bool.{Bool, true, false, _&&_}
-use Prim.Native.Nat.{ℕ}
-use lib.Ieee.{Float, nan, binary64, round, units, odd, size, span, climb, neg, add, sub, mul, div, lt}
-use Rattle.numbers.specs.Rounded.{zero}
+-- P8: a node whose own linear part is all zero, of either sign, is no candidate of any tap: no point is mapped back to a point. Under any parent its
+-- world linear part is zero or NaN, the reciprocal of its determinant an infinity or NaN, and each coefficient of the inverse NaN.
+use mathlib.Core.Path.{_≡_, refl, sym, ap, _∙_}
+use mathlib.Core.Bool.{Bool, true, false, not, _&&_, cond, false≢true}
+use mathlib.Core.List.{List, [], _∷_}
+use Prim.Native.Nat.{ℕ, zero, suc, _+_, _-_, _*_, _<_}
+use native.Mathlib.Omega.{arith}
+use native.Mathlib.Nat.{zero-mul, mul-zero, mul-pos, zero-lt-suc, lt-irrefl}
+use lib.Dec.{T, eqb, eqb→eq}
+use lib.IntN.{ℤ, pos, negsuc}
+use lib.Ieee.{Float, nan, inf, fin, binary64, up, down, unlike, round, units, odd, size, span, climb, neg, add, sub, sum, mul, div, lt, le, eq}
+use lib.Ieee.Fits.{up-pos, down-pos}
+use lib.Ieee.Scale.{round-same}
+use Rattle.numbers.specs.Rounded as const
+use Rattle.numbers.specs.Rounded.{_⊕_, _⊖_, _⊗_, _⊘_}
 use Rattle.geometry.specs.declared.point.Point.{Point}
 use Rattle.geometry.specs.declared.rect.Rect.{Rect}
 use Rattle.geometry.specs.declared.insets.Insets.{Insets}
 use Rattle.geometry.specs.Rectangle.{contains}
 use Rattle.transforms.specs.declared.affine.Affine.{Affine}
-use Rattle.transforms.specs.Transform.{mapped, inverse}
+use Rattle.transforms.specs.Transform.{mapped, product, inverse}
 use Rattle.clips.specs.declared.clip.Clip.{Clip}
-use Rattle.worlds.specs.World.{reached}
+use Rattle.worlds.specs.World.{placed, reached}
 use Rattle.box_types.specs.declared.NodeFlags.{NodeFlags}
 use Rattle.plan.specs.Plan.{Plan}
-use Rattle.plan.specs.Afresh.{worldPlace, candidate}
+use Rattle.plan.specs.Afresh.{placedOn, worldPlace, candidate}
 
--- all-zero linear part
-abbrev pub flat : Float → Float → Affine
-flat e f = record { a = zero; b = zero; c = zero; d = zero; e = e; f = f }
+-- a..d are 0 as numbers
+pub record Flat (t : Affine) : Type 0 where
+  pub a : eq (t .a) const.zero ≡ true
+  pub b : eq (t .b) const.zero ≡ true
+  pub c : eq (t .c) const.zero ≡ true
+  pub d : eq (t .d) const.zero ≡ true
 
+-- ---- zero or NaN
+
+data Void : Float → Type 0 where
+  no-number : Void nan
+  nought : (s : Bool) (e : ℤ) → Void (fin s 0 e)
+
+-- an infinity or NaN
+data Endless : Float → Type 0 where
+  no-number : Endless nan
+  endless : (s : Bool) → Endless (inf s)
+
+nothing-of : (m : ℕ) (e : ℤ) → m * up e * 1 ≡ 0 → m ≡ 0
+nothing-of zero e h = refl
+nothing-of (suc m) e h = absurd (lt-irrefl 0 (rw h at (mul-pos (mul-pos (zero-lt-suc m) (up-pos e)) (zero-lt-suc 0))))
+
+first-of : (a b : Bool) → a && b ≡ true → a ≡ true
+first-of true b h = refl
+first-of false b h = h
+
+equal-of : (m n : ℕ) → eqb m n ≡ true → m ≡ n
+equal-of m n h = eqb→eq m n (rw h tt)
+
+void-of : (x : Float) → eq x const.zero ≡ true → Void x
+unfolding eq
+void-of nan h = no-number
+void-of (inf s) h = absurd (false≢true h)
+void-of (fin s m e) h =
+    let z : m ≡ 0 = nothing-of m e (equal-of (m * up e * 1) (0 * 1 * down e) (first-of _ _ h) ∙ zero-mul (down e)) in
+    rw z (nought s e)
+
+-- ---- sums and products of them
+
+round-nought : (s : Bool) (n c : ℕ) → n ≡ 0 → 0 < c → Void (round binary64 s n c)
+unfolding round units odd size span climb
+round-nought s n c z h = rw (z, round-same binary64 s 0 c 0 1 h (zero-lt-suc 0) (sym (zero-mul c))) (nought s (pos 0))
+
+times : (x y : Float) → Void y → Void (x ⊗ y)
+unfolding mul
+times nan y v = no-number
+times (inf s) y no-number = no-number
+times (inf s) y (nought t d) = no-number
+times (fin s m e) y no-number = no-number
+times (fin s m e) y (nought t d) =
+    round-nought (unlike s t) (m * up e * (0 * up d)) (down e * down d) (ap (λ (z : ℕ). m * up e * z) (zero-mul (up d)) ∙ mul-zero (m * up e)) (mul-pos (down-pos e) (down-pos d))
+
+nought-of : (e d : ℤ) → 0 * up e * down d ≡ 0
+nought-of e d = ap (λ (z : ℕ). z * down d) (zero-mul (up e)) ∙ zero-mul (down d)
+
+-- ±0 / c and ±0 / c
+both-nought : (s t : Bool) (a b c : ℕ) → a ≡ 0 → b ≡ 0 → 0 < c → Void (sum binary64 s a t b c)
+unfolding sum
+both-nought true true a b c x y h = round-nought true (a + b) c (omega arith) h
+both-nought false false a b c x y h = round-nought false (a + b) c (omega arith) h
+both-nought true false a b c x y h = rw (x, y) (round-nought false (0 - 0) c refl h)
+both-nought false true a b c x y h = rw (x, y) (round-nought false (0 - 0) c refl h)
+
+plus : (x y : Float) → Void x → Void y → Void (x ⊕ y)
+unfolding add
+plus x y no-number w = no-number
+plus x y (nought s e) no-number = no-number
+plus x y (nought s e) (nought t d) =
+    both-nought s t (0 * up e * down d) (0 * up d * down e) (down e * down d) (nought-of e d) (nought-of d e) (mul-pos (down-pos e) (down-pos d))
+
+turned : (x : Float) → Void x → Void (neg x)
+unfolding neg
+turned x no-number = no-number
+turned x (nought s e) = nought (not s) e
+
+minus : (x y : Float) → Void x → Void y → Void (x ⊖ y)
+unfolding sub
+minus x y v w = plus x (neg y) v (turned y w)
+
+reciprocal : (x : Float) → Void x → Endless (const.one ⊘ x)
+unfolding div
+reciprocal x no-number = no-number
+reciprocal x (nought s e) = endless (unlike false s)
+
+turned-endless : (x : Float) → Endless x → Endless (neg x)
+unfolding neg
+turned-endless x no-number = no-number
+turned-endless x (endless s) = endless (not s)
+
+no-product : (r x : Float) → Endless r → Void x → r ⊗ x ≡ nan
+unfolding mul
+no-product r x no-number v = refl
+no-product r x (endless s) no-number = refl
+no-product r x (endless s) (nought t d) = refl
+
+-- ---- the node
+
+-- a..d are zero or NaN
+record Empty (t : Affine) : Type 0 where
+  a : Void (t .a)
+  b : Void (t .b)
+  c : Void (t .c)
+  d : Void (t .d)
+
+under : (P Q : Affine) → Flat Q → Empty (product P Q)
+unfolding product
+under P Q F =
+    let a = void-of (Q .a) (F .a) in
+    let b = void-of (Q .b) (F .b) in
+    let c = void-of (Q .c) (F .c) in
+    let d = void-of (Q .d) (F .d) in
+    record {
+      a = plus _ _ (times (P .a) (Q .a) a) (times (P .c) (Q .b) b);
+      b = plus _ _ (times (P .b) (Q .a) a) (times (P .d) (Q .b) b);
+      c = plus _ _ (times (P .a) (Q .c) c) (times (P .c) (Q .d) d);
+      d = plus _ _ (times (P .b) (Q .c) c) (times (P .d) (Q .d) d);
+    }
+
+-- no point is mapped back
 nowhere : Point
 nowhere = record { x = nan; y = nan }
 
-mapped-nowhere : (e f : Float) (pt : Point) → mapped (inverse (flat e f)) pt ≡ nowhere
-unfolding mapped inverse nowhere round units odd size span climb neg add sub mul div
-mapped-nowhere e f pt = refl
+mapped-nowhere : (t : Affine) → Empty t → (pt : Point) → mapped (inverse t) pt ≡ nowhere
+unfolding mapped inverse nowhere mul add
+mapped-nowhere t E pt =
+    let r = reciprocal _ (minus _ _ (times (t .a) (t .d) (E .d)) (times (t .b) (t .c) (E .c))) in
+    rw (no-product _ (t .d) r (E .d), no-product _ (t .b) (turned-endless _ r) (E .b))
 
 and-false : (b : Bool) → b && false ≡ false
 and-false true = refl
@@ -33,13 +159,13 @@ and-false false = refl
 
 out : (r : Rect) → contains r nowhere ≡ false
 unfolding contains nowhere lt
-out r = rw (and-false)
+out r = rw (and-false (le (r .x0) nan))
 
-pub not-reached : (e f : Float) (r : Rect) (s : Insets) (c : Clip) (pt : Point) → reached (inverse (flat e f)) r s c pt ≡ false
+not-reached : (t : Affine) → Empty t → (r : Rect) (s : Insets) (c : Clip) (pt : Point) → reached (inverse t) r s c pt ≡ false
 unfolding reached
-not-reached e f r s c pt = rw (mapped-nowhere e f pt, out)
+not-reached t E r s c pt = rw (mapped-nowhere t E pt, out)
 
 -- of every plan and at every point
-pub no-candidate : (p : Plan) (x : ℕ) (e f : Float) → worldPlace p x .transform ≡ flat e f → (asked : NodeFlags) (pt : Point) → candidate p asked pt x ≡ false
-unfolding candidate
-no-candidate p x e f h asked pt = rw (h, not-reached, and-false)
+pub no-candidate : (p : Plan) (x : ℕ) → Flat (p .local x .«local_transform») → (asked : NodeFlags) (pt : Point) → candidate p asked pt x ≡ false
+unfolding candidate placedOn placed
+no-candidate p x F asked pt = rw (not-reached _ (under _ (p .local x .«local_transform») F), and-false)

@@ -30,12 +30,15 @@ placedOn v (x ∷ l) = placed (placedOn v l) (v x .«local_transform») (v x .«
 abbrev pub lineage : Plan → ℕ → List ℕ
 lineage p x = x ∷ above x (p .links)
 
+-- world transform and world clip
 abbrev pub worldPlace : Plan → ℕ → Placed
 worldPlace p x = placedOn (p .local) (lineage p x)
 
+-- world box
 unfoldable pub worldBounds : Plan → ℕ → Rect
 worldBounds p x = worldBox (worldPlace p x) (p .local x .«local_bounds»)
 
+-- hit box
 unfoldable pub worldHitBounds : Plan → ℕ → Rect
 worldHitBounds p x = hitBox (worldPlace p x) (p .local x .«local_bounds») (p .local x .«hit_slop»)
 
@@ -129,6 +132,7 @@ listPoint p asked pt = map (idOf p) (keep (meetsPoint p asked pt) (inEntryOrder 
 
 -- ---- redaction: "zero bounds, zero slop and level 0 at each node lacking a flag the request asks for"; all else is kept
 
+-- what is left of a withheld node's record
 abbrev pub withheld : LocalNode → LocalNode
 withheld v =
     record {

@@ -1,7 +1,7 @@
 -- Demand 3 as a statement, for any tree that calls are made on: over every list of calls from fresh, each call is refused exactly where the
 -- plan refuses it and hands out the same id; and every request after them answers what the definition gives on the plan, redacted.
 -- What it says of a tree hangs on the step, outcome and answers that it is given: they have to be what the contracts of the calls cite (tree_run,
--- specs/Run.antt; proved in demand3). That an answer stands in front of the lent room, and what stands behind it, is those contracts' part.
+-- specs/Run.antt; tree_contracts proves that they are). That an answer stands in front of the lent room, and what stands behind it, is those contracts' part.
 use Prim.Native.Nat.{ℕ, zero, suc}
 use mathlib.Core.Path.{_≡_}
 use mathlib.Core.List.{List, [], _∷_}

@@ -74,6 +74,7 @@ nodes p = pre (p .links)
 abbrev pub idOf : Plan → ℕ → NodeId
 idOf p x = record { 0 = x; 1 = p .slots .generation x }
 
+-- a live node, by its full id
 abbrev pub live : Plan → NodeId → Bool
 live p i = has (i .0) (p .links) && eqb (p .slots .generation (i .0)) (i .1)
 

@@ -99,6 +99,7 @@ liveSlots t = take (t .links .count) (t .links .order)
 abbrev pub placeOf : Tree → ℕ → ℕ
 placeOf t x = indexOf x (liveSlots t)
 
+-- a slot that a live node has
 abbrev pub isLive : Tree → ℕ → Bool
 isLive t x = ltb (placeOf t x) (t .links .count)
 
@@ -136,6 +137,7 @@ transformChangedAt t x = getD (t .marks .transform) x false
 abbrev pub clipChangedAt : Tree → ℕ → Bool
 clipChangedAt t x = getD (t .marks .clip) x false
 
+-- a committed node: one that has an entry of the index
 abbrev pub committedAt : Tree → ℕ → Bool
 committedAt t x = getD (t .keys .committed) x false
 

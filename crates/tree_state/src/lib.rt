@@ -47,7 +47,7 @@ pub struct Keys {
     pub generation: [u32; 256],
 }
 
-// Pending rectangles: the world boxes of nodes that were removed since the last commit.
+// Pending rectangles: the world boxes, those with area, of nodes that were removed since the last commit.
 pub struct Pending {
     pub rects: [f64; 1024],
     pub count: usize,
