@@ -1,7 +1,7 @@
 use borrow.Author.Needs.{needs}
 use Rattle.understory_index.specs.Index.{clearCall}
-use Rattle.understory_index.proofs.clear.Statement.{statement}
-use Rattle.understory_index.proofs.clear.Tie as tie
+use Rattle.index_insert.proofs.clear.Statement.{statement}
+use Rattle.index_insert.proofs.clear.Tie as tie
 
 is-sound-requires : tie.Need-is-sound-requires
 is-sound-requires c κs = search needs

@@ -3,13 +3,13 @@ use mathlib.Core.Path.{_≡_, sym, _∙_}
 use lib.ListN.{length}
 use borrow.Author.Tests.{not-false}
 use borrow.Author.Needs.{needs}
 use Rattle.understory_index.proofs.Calls.{remove-done}
 use Rattle.understory_index.specs.Index.{removeCall}
 use Rattle.index_entries.proofs.Keep.{queue-of, queue-room, free-room}
 use Rattle.index_entries.proofs.Slots.{look-live, look-dead, live-slot}
 use Rattle.index_sound.proofs.Exact.{CountOf, count-tells}
-use Rattle.understory_index.proofs.remove.Statement.{statement}
-use Rattle.understory_index.proofs.remove.Tie as tie
+use Rattle.index_update.proofs.remove.Statement.{statement}
+use Rattle.index_update.proofs.remove.Tie as tie
 
 lens : (c : tie.Start) → (length (c .args .ix .mark) ≡ 512) × (length (c .args .ix .free) ≡ 512) × (length (c .args .ix .dirty) ≡ 512)
 lens c = (search needs, search needs, search needs)

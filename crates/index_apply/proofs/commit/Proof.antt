@@ -3,12 +3,12 @@ use mathlib.Core.Path.{_≡_, sym, _∙_}
 use lib.ListN.{length}
 use borrow.Author.Tests.{not-false}
 use borrow.Author.Needs.{needs}
 use Rattle.understory_index.proofs.Calls.{long, rooms-stay, unsound-refuses, short-refuses, rooms-done, commit-done}
 use Rattle.understory_index.specs.Index.{commitCall, workOf}
 use Rattle.index_sound.proofs.Exact.{decides}
 use Rattle.index_sound.specs.Sound.{SoundOf}
-use Rattle.understory_index.proofs.commit.Statement.{statement}
-use Rattle.understory_index.proofs.commit.Tie as tie
+use Rattle.index_apply.proofs.commit.Statement.{statement}
+use Rattle.index_apply.proofs.commit.Tie as tie
 
 lens : (c : tie.Start) → (length (c .args .ix .mark) ≡ 512) × (length (c .args .ix .free) ≡ 512) × (length (c .args .ix .dirty) ≡ 512)
 lens c = (search needs, search needs, search needs)

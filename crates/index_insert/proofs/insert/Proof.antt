@@ -4,12 +4,12 @@ use Prim.Native.Nat.{_<_}
 use lib.ListN.{length}
 use borrow.Author.Tests.{eq-eqb, leb-false, not-false}
 use borrow.Author.Needs.{needs}
 use Rattle.understory_index.proofs.Calls.{insert-done}
 use Rattle.understory_index.specs.Index.{insertCall}
 use Rattle.index_entries.proofs.Keep.{queue-of, queue-room, slot-fits}
 use Rattle.index_sound.proofs.Exact.{CountOf, count-tells}
-use Rattle.understory_index.proofs.insert.Statement.{statement}
-use Rattle.understory_index.proofs.insert.Tie as tie
+use Rattle.index_insert.proofs.insert.Statement.{statement}
+use Rattle.index_insert.proofs.insert.Tie as tie
 
 lens : (c : tie.Start) → (length (c .args .ix .mark) ≡ 512) × (length (c .args .ix .free) ≡ 512) × (length (c .args .ix .dirty) ≡ 512)
 lens c = (search needs, search needs, search needs)

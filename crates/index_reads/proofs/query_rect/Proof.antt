@@ -1,10 +1,10 @@
 use lib.ListN.{length}
 use borrow.Author.Tests.{lt-ltb, le-ltb}
 use borrow.Author.Needs.{needs}
 use Rattle.understory_index.proofs.Calls.{query-done}
 use Rattle.understory_index.specs.Index.{queryAnswer, queryRoom, rectSlots}
-use Rattle.understory_index.proofs.query_rect.Statement.{statement}
-use Rattle.understory_index.proofs.query_rect.Tie as tie
+use Rattle.index_reads.proofs.query_rect.Statement.{statement}
+use Rattle.index_reads.proofs.query_rect.Tie as tie
 
 is-sound-requires : tie.Need-is-sound-requires
 is-sound-requires c κs = search needs

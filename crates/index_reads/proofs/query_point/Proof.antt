@@ -1,7 +1,7 @@
 use borrow.Author.Needs.{needs}
 use Rattle.understory_index.proofs.Calls.{point-of}
-use Rattle.understory_index.proofs.query_point.Statement.{statement}
-use Rattle.understory_index.proofs.query_point.Tie as tie
+use Rattle.index_reads.proofs.query_point.Statement.{statement}
+use Rattle.index_reads.proofs.query_point.Tie as tie
 
 new-requires : tie.Need-new-requires
 new-requires c κs = search needs
