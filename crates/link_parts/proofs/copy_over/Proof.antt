@@ -5,9 +5,9 @@ use native.Mathlib.Omega.{arith}
 use lib.ListN.{length, drop, getD, set}
 use lib.Seq.{paste, paste-zero}
 use borrow.Author.Needs.{needs}
 use Rattle.links.proofs.Steps.{copy-on}
-use Rattle.links.proofs.copy_over.Statement.{statement}
-use Rattle.links.proofs.copy_over.Tie as tie
+use Rattle.link_parts.proofs.copy_over.Statement.{statement}
+use Rattle.link_parts.proofs.copy_over.Tie as tie
 
 abbrev Inv-loop : tie.InvT-loop
 Inv-loop a₀ at s from k j₀ a j = (j ≤ k) × (length a ≡ 256) × (a ≡ paste a₀ at (drop from s) j)

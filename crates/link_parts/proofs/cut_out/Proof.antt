@@ -4,9 +4,9 @@ use native.Mathlib.Omega.{arith}
 use lib.ListN.{length, drop}
 use lib.Seq.{paste}
 use borrow.Author.Needs.{needs}
 use Rattle.links.proofs.Steps.{close-turn, close-none, close-end}
-use Rattle.links.proofs.cut_out.Statement.{statement}
-use Rattle.links.proofs.cut_out.Tie as tie
+use Rattle.link_parts.proofs.cut_out.Statement.{statement}
+use Rattle.link_parts.proofs.cut_out.Tie as tie
 
 abbrev Inv-loop : tie.InvT-loop
 Inv-loop a₀ n i j to₀ from₀ a to from = (j ≤ from) × (from ≤ n) × (n ≤ 256) × (to ≡ i + (from - j)) × (i ≤ j) × (length a ≡ 256) × (a ≡ paste a₀ i (drop j a₀) (from - j))

@@ -3,10 +3,10 @@ use mathlib.Core.Path.{_≡_}
 use native.Mathlib.Omega.{arith}
 use lib.ListN.{length, getD}
 use borrow.Author.Needs.{needs}
 use Rattle.links.specs.Links.{shifted}
 use Rattle.links.proofs.Steps.{shifted-at, shifted-on, shifted-none}
-use Rattle.links.proofs.shift.Statement.{statement}
-use Rattle.links.proofs.shift.Tie as tie
+use Rattle.link_parts.proofs.shift.Statement.{statement}
+use Rattle.link_parts.proofs.shift.Tie as tie
 
 abbrev Inv-loop : tie.InvT-loop
 Inv-loop a₀ from to was is i₀ a i = (from ≤ i) × (i ≤ to) × (length a ≡ 256) × (a ≡ shifted from i was is a₀)

@@ -1,7 +1,7 @@
 use borrow.Author.Needs.{needs}
 use Rattle.links.proofs.Changes.{tree-cut}
-use Rattle.links.proofs.cut_tree.Statement.{statement}
-use Rattle.links.proofs.cut_tree.Tie as tie
+use Rattle.link_moves.proofs.cut_tree.Statement.{statement}
+use Rattle.link_moves.proofs.cut_tree.Tie as tie
 
 segment-end-requires : tie.Need-segment-end-requires
 segment-end-requires c κs = search needs

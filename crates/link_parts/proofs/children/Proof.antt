@@ -6,10 +6,10 @@ use native.Mathlib.Omega.{arith}
 use lib.ListN.{length, take, drop, length-set}
 use borrow.Author.Needs.{needs}
 use Rattle.forest.specs.Table.{atDepth}
 use Rattle.links.specs.Links.{part}
 use Rattle.links.proofs.Steps.{level-put, level-pass, level-rest, level-end}
-use Rattle.links.proofs.children.Statement.{statement}
-use Rattle.links.proofs.children.Tie as tie
+use Rattle.link_parts.proofs.children.Statement.{statement}
+use Rattle.link_parts.proofs.children.Tie as tie
 
 abbrev Inv-loop : tie.InvT-loop
 Inv-loop order depth from e k out₀ m₀ i₀ out m i = (from ≤ i) × (i ≤ e) × (m ≤ i - from) × (length out ≡ 256) × (take m out ++ atDepth k (part i e order) (part i e depth) ≡ atDepth k (part from e order) (part from e depth)) × (drop m out ≡ drop m out₀)

@@ -5,10 +5,10 @@ use native.Mathlib.Omega.{arith}
 use lib.ListN.{length, getD}
 use borrow.Author.Needs.{needs}
 use Rattle.forest.specs.Table.{postOf, insertAll}
 use Rattle.links.specs.Links.{part, inFront}
 use Rattle.links.proofs.Steps.{post-none, post-turn}
-use Rattle.links.proofs.post_order.Statement.{statement}
-use Rattle.links.proofs.post_order.Tie as tie
+use Rattle.link_parts.proofs.post_order.Statement.{statement}
+use Rattle.link_parts.proofs.post_order.Tie as tie
 
 abbrev Inv-loop : tie.InvT-loop
 Inv-loop order depth at e out₀ j₀ out j = (at ≤ j) × (j ≤ e) × (length out ≡ 256) × (out ≡ inFront (postOf (part j e order) (part j e depth)) out₀)

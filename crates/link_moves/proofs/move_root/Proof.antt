@@ -3,9 +3,9 @@ use mathlib.Core.Path.{_≡_, refl}
 use native.Mathlib.Omega.{arith}
 use lib.ListN.{length}
 use borrow.Author.Needs.{needs}
 use Rattle.links.proofs.Changes.{depth-fits, moved-root}
-use Rattle.links.proofs.move_root.Statement.{statement}
-use Rattle.links.proofs.move_root.Tie as tie
+use Rattle.link_moves.proofs.move_root.Statement.{statement}
+use Rattle.link_moves.proofs.move_root.Tie as tie
 
 lens : (c : tie.Start) → (length (c .args .t1 .order) ≡ 256) × (length (c .args .t1 .depth) ≡ 256)
 lens c = (search needs, search needs)

@@ -1,9 +1,9 @@
 use mathlib.Core.Path.{sym}
 use native.Mathlib.Omega.{arith}
 use borrow.Author.Needs.{needs}
 use Rattle.links.proofs.Changes.{after-less, after-more}
-use Rattle.links.proofs.after_cut.Statement.{statement}
-use Rattle.links.proofs.after_cut.Tie as tie
+use Rattle.link_moves.proofs.after_cut.Statement.{statement}
+use Rattle.link_moves.proofs.after_cut.Tie as tie
 
 sub-result : tie.Need-sub-result
 sub-result c = search needs

@@ -1,8 +1,8 @@
 use native.Mathlib.Omega.{arith}
 use borrow.Author.Needs.{needs}
 use Rattle.links.proofs.Steps.{inserted-all}
-use Rattle.links.proofs.insert_all.Statement.{statement}
-use Rattle.links.proofs.insert_all.Tie as tie
+use Rattle.link_parts.proofs.insert_all.Statement.{statement}
+use Rattle.link_parts.proofs.insert_all.Tie as tie
 
 copy-over-requires : tie.Need-copy-over-requires
 copy-over-requires c κs = search needs
