@@ -10,7 +10,7 @@ use lib.Dec.{ltb, eqb}
 use lib.ListN.{length, take, getD}
 use Rattle.counting.specs.Times.{one, times}
 use Rattle.counting.proofs.Counting.{hit, miss, times-next}
-use Rattle.index_entries.specs.Entries.{stands}
+use Rattle.entry_slots.specs.Slots.{stands}
 
 -- one more place is looked at
 pub stands-next : (x : ℕ) (l : List ℕ) (i : ℕ) → i < length l → stands x l (i + 1) ≡ stands x l i || eqb (getD l i 0) x

@@ -5,10 +5,10 @@ use native.Mathlib.Omega.{arith}
 use lib.ListN.{length, take}
 use lib.Dec.{ltb}
 use borrow.Author.Needs.{needs}
-use Rattle.index_entries.proofs.Queue.{stands-next}
+use Rattle.entry_slots.proofs.Queue.{stands-next}
 use Rattle.counting.specs.Times.{times}
-use Rattle.index_entries.proofs.is_queued.Statement.{statement}
-use Rattle.index_entries.proofs.is_queued.Tie as tie
+use Rattle.entry_slots.proofs.is_queued.Statement.{statement}
+use Rattle.entry_slots.proofs.is_queued.Tie as tie
 
 abbrev Inv-loop : tie.InvT-loop
 Inv-loop dirty queued x found₀ i₀ found i = (i ≤ queued) × (queued ≤ 512) × (length dirty ≡ 512) × (found ≡ ltb 0 (times x (take i dirty)))

@@ -1,9 +1,9 @@
 use mathlib.Core.List.{[]}
 use mathlib.Core.Path.{sym}
 use native.Mathlib.Omega.{arith}
-use Rattle.index_entries.proofs.Slots.{used-unused, used-last}
-use Rattle.index_entries.proofs.used_after.Statement.{statement}
-use Rattle.index_entries.proofs.used_after.Tie as tie
+use Rattle.entry_slots.proofs.Slots.{used-unused, used-last}
+use Rattle.entry_slots.proofs.used_after.Statement.{statement}
+use Rattle.entry_slots.proofs.used_after.Tie as tie
 
 add-result : tie.Need-add-result
 add-result c = omega (arith, c .before .pre (c .if1 .taken))

@@ -1,8 +1,8 @@
 use mathlib.Core.Path.{sym, _∙_}
 use borrow.Author.Needs.{needs}
-use Rattle.index_entries.specs.Entries.{queueWith, lengthWith}
-use Rattle.index_entries.proofs.queue_dirty_slot.Statement.{statement}
-use Rattle.index_entries.proofs.queue_dirty_slot.Tie as tie
+use Rattle.entry_slots.specs.Slots.{queueWith, lengthWith}
+use Rattle.entry_slots.proofs.queue_dirty_slot.Statement.{statement}
+use Rattle.entry_slots.proofs.queue_dirty_slot.Tie as tie
 
 is-queued-requires : tie.Need-is-queued-requires
 is-queued-requires c κs = search needs

@@ -1,9 +1,9 @@
 use mathlib.Core.Path.{sym, _∙_}
 use native.Mathlib.Omega.{arith}
 use borrow.Author.Needs.{needs}
-use Rattle.index_entries.proofs.Slots.{slot-unused, slot-last, generation-unused, generation-next}
-use Rattle.index_entries.proofs.next_slot.Statement.{statement}
-use Rattle.index_entries.proofs.next_slot.Tie as tie
+use Rattle.entry_slots.proofs.Slots.{slot-unused, slot-last, generation-unused, generation-next}
+use Rattle.entry_slots.proofs.next_slot.Statement.{statement}
+use Rattle.entry_slots.proofs.next_slot.Tie as tie
 
 cast-t7 : tie.Need-cast-t7
 cast-t7 c = search needs

@@ -1,8 +1,8 @@
 use borrow.Author.Tests.{eq-eqb, ne-eqb}
 use borrow.Author.Needs.{needs}
-use Rattle.index_entries.specs.Entries.{nextGeneration}
-use Rattle.index_entries.proofs.next_generation.Statement.{statement}
-use Rattle.index_entries.proofs.next_generation.Tie as tie
+use Rattle.entry_slots.specs.Slots.{nextGeneration}
+use Rattle.entry_slots.proofs.next_generation.Statement.{statement}
+use Rattle.entry_slots.proofs.next_generation.Tie as tie
 
 wrapping-add-u32-requires : tie.Need-wrapping-add-u32-requires
 wrapping-add-u32-requires c κs = search needs
