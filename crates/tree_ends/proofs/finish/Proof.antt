@@ -1,8 +1,8 @@
 use borrow.Author.Needs.{needs}
 use Rattle.tree_nodes.proofs.Lengths.{mark-long, entries-free-long, dirty-long}
-use Rattle.tree_commit.proofs.Call.{finish-done}
-use Rattle.tree_commit.proofs.finish.Statement.{statement}
-use Rattle.tree_commit.proofs.finish.Tie as tie
+use Rattle.tree_ends.proofs.End.{finish-done}
+use Rattle.tree_ends.proofs.finish.Statement.{statement}
+use Rattle.tree_ends.proofs.finish.Tie as tie
 
 abbrev begins : tie.After-dirty2 → tie.Start
 begins c = c .before .before .before .before .before .before .before .before .before .before .before .before .before .before .before .before .before .before .before .before .before .before .before .before .before .before .before .before .before .before .before

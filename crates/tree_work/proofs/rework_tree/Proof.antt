@@ -6,10 +6,10 @@ use Rattle.tree_laws.proofs.Whole.{Whole}
 use Rattle.tree_laws.proofs.Ground.{linked}
 use Rattle.tree_steps.specs.Commit.{begun}
 use Rattle.keep_commit.proofs.Sizes.{length-rects}
-use Rattle.tree_commit.proofs.Lengths.{whole}
-use Rattle.tree_commit.proofs.Call.{sound-of, places-few, places-are, places-ready, front-same}
-use Rattle.tree_commit.proofs.rework_tree.Statement.{statement}
-use Rattle.tree_commit.proofs.rework_tree.Tie as tie
+use Rattle.tree_work.proofs.Lengths.{whole}
+use Rattle.tree_work.proofs.Places.{sound-of, places-few, places-are, places-ready, front-same}
+use Rattle.tree_work.proofs.rework_tree.Statement.{statement}
+use Rattle.tree_work.proofs.rework_tree.Tie as tie
 
 -- from each call back to the one before
 abbrev begins : tie.After-put-pending-arg2 → tie.Start
