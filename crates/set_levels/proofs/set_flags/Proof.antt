@@ -5,9 +5,9 @@ use Rattle.box_types.specs.Local.{known}
 use Rattle.tree_state.specs.declared.Verdict.{Verdict}
 use Rattle.tree_state.specs.declared.Refusal.the-variants as no
 use Rattle.tree_steps.specs.Setters.{ofNode, flagsVerdict}
-use Rattle.tree_setters.proofs.Done.{refused, accepted, tested-all, tested-low, flags-done}
-use Rattle.tree_setters.proofs.set_flags.Statement.{statement}
-use Rattle.tree_setters.proofs.set_flags.Tie as tie
+use Rattle.setter_steps.proofs.Done.{refused, accepted, tested-all, tested-low, flags-done}
+use Rattle.set_levels.proofs.set_flags.Statement.{statement}
+use Rattle.set_levels.proofs.set_flags.Tie as tie
 
 -- ---- the test, and what it gives
 

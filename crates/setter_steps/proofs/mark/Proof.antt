@@ -1,6 +1,6 @@
 use borrow.Author.Needs.{needs}
-use Rattle.tree_setters.proofs.mark.Statement.{statement}
-use Rattle.tree_setters.proofs.mark.Tie as tie
+use Rattle.setter_steps.proofs.mark.Statement.{statement}
+use Rattle.setter_steps.proofs.mark.Tie as tie
 
 element-write-marks : tie.Need-element-write-marks
 element-write-marks c = search needs

@@ -6,9 +6,9 @@ use mir.Syntax.{w32}
 use mir.ValLaws.{toZ-ofZ}
 use borrow.Author.Needs.{needs}
 use Rattle.tree_steps.specs.Setters.{ofNode}
-use Rattle.tree_setters.proofs.Done.{refused, accepted, slot-low, level-done}
-use Rattle.tree_setters.proofs.set_z_index.Statement.{statement}
-use Rattle.tree_setters.proofs.set_z_index.Tie as tie
+use Rattle.setter_steps.proofs.Done.{refused, accepted, slot-low, level-done}
+use Rattle.set_levels.proofs.set_z_index.Statement.{statement}
+use Rattle.set_levels.proofs.set_z_index.Tie as tie
 
 low : (c : tie.After-enum-told) → c .before .before .before .args .id .0 < 256
 low c =
