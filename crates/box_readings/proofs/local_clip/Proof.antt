@@ -5,8 +5,8 @@ use Rattle.tree_state.specs.Tree.{localAt}
 use Rattle.tree_nodes.proofs.Lengths.{sized}
 use Rattle.tree_nodes.proofs.Nodes.{node-accepted}
 use Rattle.tree_answers.specs.Answers.{clipIf}
-use Rattle.tree_readings.proofs.local_clip.Statement.{statement}
-use Rattle.tree_readings.proofs.local_clip.Tie as tie
+use Rattle.box_readings.proofs.local_clip.Statement.{statement}
+use Rattle.box_readings.proofs.local_clip.Tie as tie
 
 of-node-requires : tie.Need-of-node-requires
 of-node-requires c κs = search needs
