@@ -1,8 +1,8 @@
--- `call_lists::start` meets its contract: the tree is what `fresh` answers. Assumes nothing.
+-- `call_states::start` meets its contract: the tree is what `fresh` answers. Assumes nothing.
 use mathlib.Core.Path.{refl}
 use borrow.Author.Needs.{needs}
-use Rattle.call_lists.proofs.start.Statement.{statement}
-use Rattle.call_lists.proofs.start.Tie as tie
+use Rattle.call_states.proofs.start.Statement.{statement}
+use Rattle.call_states.proofs.start.Tie as tie
 
 fresh-requires : tie.Need-fresh-requires
 fresh-requires c κs = search needs

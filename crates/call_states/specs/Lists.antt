@@ -4,7 +4,7 @@ use mathlib.Core.Bool.{Bool, true}
 use mathlib.Core.List.{List, [], _∷_}
 use lib.Dec.{eqb}
 use Rattle.tree_state.specs.Tree.{freshTree}
-use Rattle.call_lists.specs.declared.State.{State}
+use Rattle.call_states.specs.declared.State.{State}
 
 -- an empty tree, and room for 256 ids and 512 rectangles
 abbrev pub first : State

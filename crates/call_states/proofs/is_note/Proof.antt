@@ -1,8 +1,8 @@
--- `call_lists::is_note` meets its contract: by the line's length, then by its first byte. Assumes nothing.
+-- `call_states::is_note` meets its contract: by the line's length, then by its first byte. Assumes nothing.
 use borrow.Author.Needs.{needs}
-use Rattle.call_lists.proofs.Notes.{empty-note, first-note}
-use Rattle.call_lists.proofs.is_note.Statement.{statement}
-use Rattle.call_lists.proofs.is_note.Tie as tie
+use Rattle.call_states.proofs.Notes.{empty-note, first-note}
+use Rattle.call_states.proofs.is_note.Statement.{statement}
+use Rattle.call_states.proofs.is_note.Tie as tie
 
 returns : tie.Need-returns
 returns c = empty-note (c .before .args .line .now) (c .if1 .taken)

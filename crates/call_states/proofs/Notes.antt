@@ -7,7 +7,7 @@ use native.Mathlib.Omega.{arith}
 use lib.Dec.{eqb}
 use lib.ListN.{length, getD}
 use Rattle.words.proofs.Nan.{clash}
-use Rattle.call_lists.specs.Lists.{isNote}
+use Rattle.call_states.specs.Lists.{isNote}
 
 pub empty-note : (s : List ℕ) → length s ≡ 0 → true ≡ isNote s
 unfolding isNote
