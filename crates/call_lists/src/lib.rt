@@ -8,29 +8,14 @@ mod requests; // taps and listings
 
 ghost use mathlib.Core.Path.{_≡_};
 ghost use mathlib.Core.Bool.{true};
-ghost use Rattle.call_lists.specs.Lists as spec;
+ghost use Rattle.call_states.specs.Lists as spec;
 use call_lines::line;
 use call_lines::print;
 use call_lines::print::Buffer;
+pub use call_states::State;
+use call_states::is_note;
+pub use call_states::start;
 use tree_state::Tree;
-
-// The tree, and how many ids and rectangles the room holds that a call is lent.
-pub struct State {
-    pub tree: Tree,
-    pub ids: u32,
-    pub rects: u32,
-}
-
-// An empty tree, and room for 256 ids and 512 rectangles.
-pub fn start() -> State
-    ensures { λ r. ⌜ r ≡ spec.first ⌝ }
-{
-    State {
-        tree: tree_state::fresh(),
-        ids: 256,
-        rects: 512,
-    }
-}
 
 // The names of the calls, in the order in which `call` and `reading` have them.
 fn place(line: &[u8]) -> usize {
@@ -98,16 +83,6 @@ fn call(out: &mut Buffer, used: &mut usize, line: &[u8], t: Tree, ids: u32, rect
             t
         }
     }
-}
-
-// A line without a call: an empty one, or a note.
-fn is_note(line: &[u8]) -> bool
-    ensures { λ r. ⌜ r ≡ spec.isNote (now (line .entry)) ⌝ }
-{
-    if line.len() == 0 {
-        return true;
-    }
-    line[0] == b'#'
 }
 
 // The room from a line on: it stays through `new`.

@@ -11,7 +11,7 @@ use Rattle.numbers.proofs.Placed.{placed, placed-clear, min-clear, fit-again, f
 use Rattle.geometry.specs.declared.rect.Rect.{Rect}
 use Rattle.geometry.specs.Rectangle.{rect, width, height, ordered, finiteRect}
 use Rattle.geometry.proofs.Corners.{ordered-again, ordered-le, ordered-finite}
-use Rattle.clips.specs.declared.radii.RoundedRectRadii.{RoundedRectRadii}
+use Rattle.radii.specs.declared.RoundedRectRadii.{RoundedRectRadii}
 use Rattle.clips.specs.declared.clip.Clip.{Clip}
 use Rattle.clips.specs.declared.clip.Clip.the-variants as is
 use Rattle.clips.specs.declared.clip.ClipRect.{ClipRect}

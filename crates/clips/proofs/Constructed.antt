@@ -10,7 +10,7 @@ use Rattle.numbers.proofs.Bools.{clash, and-left, and-right, four, all-four}
 use Rattle.numbers.proofs.Bitwise.{same-eq, same-self}
 use Rattle.geometry.specs.declared.rect.Rect.{Rect}
 use Rattle.geometry.specs.Rectangle.{rect, ordered}
-use Rattle.clips.specs.declared.radii.RoundedRectRadii.{RoundedRectRadii}
+use Rattle.radii.specs.declared.RoundedRectRadii.{RoundedRectRadii}
 use Rattle.clips.specs.declared.clip.Clip.{Clip}
 use Rattle.clips.specs.declared.clip.Clip.the-variants as is
 use Rattle.clips.specs.Clips.{radii, all, fitted, square, rounded, shaped, constructed, clipRect, clipRadii, sameRect, sameRadii, asConstructed}

@@ -5,7 +5,7 @@ use lib.Ieee.Scale.{finite}
 use Rattle.numbers.proofs.Bools.{and-left, and-right}
 use Rattle.numbers.proofs.Order.{four-refl, four-sym}
 use Rattle.geometry.proofs.Records.{rect-refl, rect-sym}
-use Rattle.clips.specs.declared.radii.RoundedRectRadii.{RoundedRectRadii}
+use Rattle.radii.specs.declared.RoundedRectRadii.{RoundedRectRadii}
 use Rattle.clips.specs.declared.clip.Clip.{Clip}
 use Rattle.clips.specs.declared.clip.ClipRect.{ClipRect}
 use Rattle.clips.specs.declared.clip.ClipRect.the-variants as of

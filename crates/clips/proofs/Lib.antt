@@ -1,5 +1,4 @@
 pub mod Construct
 pub mod Equality
-mod Quadrant
 mod Examples
 pub mod Constructed

@@ -1,40 +1,22 @@
 -- Clips (document 01, module 2): none, square, or rounded with four radii, in the order top left, top right, bottom right, bottom
 -- left. A clip is read by its rectangle and its radii: "square means all radii 0". Below, `is.` marks the cases of `Clip`, and `of.` those of
 -- `ClipRect`, a clip's rectangle if there is a clip.
-use mathlib.Core.Bool.{Bool, true, false, not, _&&_, _||_, cond}
-use lib.Ieee.{Float, isNan, lt, le, eq}
+use mathlib.Core.Bool.{Bool, true, false, not, _&&_, cond}
+use lib.Ieee.{le, eq}
 use lib.Ieee.Scale.{finite}
 use Rattle.geometry.specs.declared.point.Point.{Point}
 use Rattle.geometry.specs.declared.rect.Rect.{Rect}
-use Rattle.clips.specs.declared.radii.RoundedRectRadii.{RoundedRectRadii}
+use Rattle.radii.specs.declared.RoundedRectRadii.{RoundedRectRadii}
 use Rattle.clips.specs.declared.clip.Clip.{Clip}
 use Rattle.clips.specs.declared.clip.Clip.the-variants as is
 use Rattle.clips.specs.declared.clip.ClipRect.{ClipRect}
 use Rattle.clips.specs.declared.clip.ClipRect.the-variants as of
-use Rattle.numbers.specs.Rounded.{_⊕_, _⊖_, _⊗_, _⊘_, zero, half, two}
-use Rattle.numbers.specs.Number.{minimum, maximum, magnitude, same}
-use Rattle.geometry.specs.Rectangle.{rect, width, height, ordered, rectEq, finiteRect}
-
--- ---- radii
-
-abbrev pub radii : Float → Float → Float → Float → RoundedRectRadii
-radii tl tr br bl = record { «top_left» = tl; «top_right» = tr; «bottom_right» = br; «bottom_left» = bl }
-
-abbrev pub noRadii : RoundedRectRadii
-noRadii = radii zero zero zero zero
-
--- the same done to each radius
-abbrev pub each : (Float → Float) → RoundedRectRadii → RoundedRectRadii
-each f r = radii (f (r .«top_left»)) (f (r .«top_right»)) (f (r .«bottom_right»)) (f (r .«bottom_left»))
-
--- the same true of all four
-abbrev pub all : (Float → Bool) → RoundedRectRadii → Bool
-all p r = p (r .«top_left») && p (r .«top_right») && (p (r .«bottom_right») && p (r .«bottom_left»))
-
-abbrev pub radiiEq : RoundedRectRadii → RoundedRectRadii → Bool
-radiiEq r s =
-    eq (r .«top_left») (s .«top_left») && eq (r .«top_right») (s .«top_right»)
-    && (eq (r .«bottom_right») (s .«bottom_right») && eq (r .«bottom_left») (s .«bottom_left»))
+use Rattle.numbers.specs.Rounded.{zero}
+use Rattle.geometry.specs.Rectangle.{rect, ordered, rectEq, finiteRect}
+pub use Rattle.radii.specs.Radii.{radii, noRadii, each, all, radiiEq, cap}
+unfoldable pub use Rattle.radii.specs.Radii.{fitted, quadrant}
+pub use Rattle.rounded.specs.Rounded.{centre, insideCorner, insideAt, sameRect, sameRadii}
+unfoldable pub use Rattle.rounded.specs.Rounded.{excess, insideRounded}
 
 -- ---- a clip's parts
 
@@ -49,14 +31,6 @@ clipRadii (is.Square x0 y0 x1 y1) = noRadii
 clipRadii (is.Rounded x0 y0 x1 y1 tl tr br bl) = radii tl tr br bl
 
 -- ---- the constructor: corners put in order, radii made non-negative, each capped at half the shorter side; square means all radii 0
-
--- half the shorter side
-abbrev pub cap : Rect → Float
-cap r = minimum (width r) (height r) ⊘ two
-
--- a NaN radius becomes the cap, and under a NaN cap no radius is capped
-unfoldable pub fitted : Rect → RoundedRectRadii → RoundedRectRadii
-fitted r q = each (λ x. minimum (magnitude x) (cap r)) q
 
 abbrev pub square : Rect → Clip
 square r = is.Square (r .x0) (r .y0) (r .x1) (r .y1)
@@ -75,32 +49,6 @@ unfoldable pub constructed : Clip → Clip
 constructed c = constructedOf (clipRect c) (clipRadii c)
 
 -- ---- a point inside, measured from the centre of the clip as it is given: the constructor comes first
-
-abbrev pub centre : Rect → Point
-centre r = record { x = half ⊗ (r .x0 ⊕ r .x1); y = half ⊗ (r .y0 ⊕ r .y1) }
-
--- The radius of the quadrant that the offset lies in: a zero offset, of either sign, counts as right or bottom; with any NaN it is 0.
-unfoldable pub quadrant : RoundedRectRadii → Float → Float → Float
-quadrant q dx dy =
-    cond (isNan dx || isNan dy) zero
-    (cond (lt dx zero) (cond (lt dy zero) (q .«top_left») (q .«bottom_left»)) (cond (lt dy zero) (q .«top_right») (q .«bottom_right»)))
-
--- How far an offset d reaches past the straight part of a side of this length, whose corners have the radius R: never below 0, and 0 for
--- a NaN offset, since a maximum with a NaN gives the other operand. So a point whose offsets are both NaN is inside every clip.
-unfoldable pub excess : Float → Float → Float → Float
-excess d side R = maximum (magnitude d ⊖ maximum (side ⊘ two ⊖ R) zero) zero
-
-abbrev pub insideCorner : Float → Float → Float → Bool
-insideCorner px py R = le (px ⊗ px ⊕ py ⊗ py) (R ⊗ R)
-
-abbrev pub insideAt : Rect → Float → Float → Float → Bool
-insideAt r dx dy R = insideCorner (excess dx (width r) R) (excess dy (height r) R) R
-
-unfoldable pub insideRounded : Rect → RoundedRectRadii → Point → Bool
-insideRounded r q p =
-    let dx = p .x ⊖ centre r .x in
-    let dy = p .y ⊖ centre r .y in
-    insideAt r dx dy (quadrant q dx dy)
 
 -- no clip leaves every point inside
 abbrev pub insideOf : ClipRect → RoundedRectRadii → Point → Bool
@@ -131,14 +79,6 @@ unfoldable pub finiteClip : Clip → Bool
 finiteClip c = finiteClipRect (clipRect c) && all finite (clipRadii c)
 
 -- ---- "clips are as constructed": the constructor leaves the clip as it is, to the bit
-
-abbrev pub sameRect : Rect → Rect → Bool
-sameRect r s = same (r .x0) (s .x0) && same (r .y0) (s .y0) && (same (r .x1) (s .x1) && same (r .y1) (s .y1))
-
-abbrev pub sameRadii : RoundedRectRadii → RoundedRectRadii → Bool
-sameRadii q s =
-    same (q .«top_left») (s .«top_left») && same (q .«top_right») (s .«top_right»)
-    && (same (q .«bottom_right») (s .«bottom_right») && same (q .«bottom_left») (s .«bottom_left»))
 
 unfoldable pub asConstructed : Clip → Bool
 asConstructed is.None = true

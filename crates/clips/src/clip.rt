@@ -1,12 +1,12 @@
 // Clips, kurbo's rounded_rect.rs: where the box tree has an Option<RoundedRect>, a clip is none, square, or rounded.
 ghost use mathlib.Core.Path.{_≡_};
-ghost use Rattle.clips.specs.Clips.{excess, insideRounded, inside, shaped, constructed, clipRect, clipRadii, clipRectEq, clipEq, finiteClipRect, finiteClip, sameRect, sameRadii, asConstructed};
-use crate::radii::RoundedRectRadii;
+ghost use Rattle.clips.specs.Clips.{inside, shaped, constructed, clipRect, clipRadii, clipRectEq, clipEq, finiteClipRect, finiteClip, asConstructed};
 use geometry::point::Point;
 use geometry::rect::Rect;
-use numbers::abs;
-use numbers::max;
-use numbers::same;
+use radii::RoundedRectRadii;
+use rounded::same_radii;
+use rounded::same_rect;
+use rounded::winding;
 
 pub enum Clip {
     None,
@@ -56,41 +56,6 @@ fn shape(r: Rect, q: RoundedRectRadii) -> Clip
         bottom_right: q.bottom_right,
         bottom_left: q.bottom_left,
     }
-}
-
-// How far the offset `d` from the centre reaches past the straight part of a side.
-fn excess(d: f64, side: f64, radius: f64) -> f64
-    ensures { λ r. ⌜ r ≡ excess d side radius ⌝ }
-{
-    let straight = max(side / 2.0 - radius, 0.0);
-    max(abs(d) - straight, 0.0)
-}
-
-// RoundedRect::winding, as whether it is not 0: measured from the centre, with the radius of the point's quadrant.
-fn winding(r: Rect, q: RoundedRectRadii, p: Point) -> bool
-    ensures { λ b. ⌜ b ≡ insideRounded r q p ⌝ }
-{
-    let dx = p.x - 0.5 * (r.x0 + r.x1);
-    let dy = p.y - 0.5 * (r.y0 + r.y1);
-    let radius = q.quadrant(dx, dy);
-    let px = excess(dx, r.width(), radius);
-    let py = excess(dy, r.height(), radius);
-    px * px + py * py <= radius * radius
-}
-
-// Equality to the bit.
-fn same_rect(r: Rect, s: Rect) -> bool
-    ensures { λ b. ⌜ b ≡ sameRect r s ⌝ }
-{
-    same(r.x0, s.x0) & same(r.y0, s.y0) & (same(r.x1, s.x1) & same(r.y1, s.y1))
-}
-
-fn same_radii(q: RoundedRectRadii, s: RoundedRectRadii) -> bool
-    ensures { λ b. ⌜ b ≡ sameRadii q s ⌝ }
-{
-    same(q.top_left, s.top_left)
-        & same(q.top_right, s.top_right)
-        & (same(q.bottom_right, s.bottom_right) & same(q.bottom_left, s.bottom_left))
 }
 
 impl ClipRect {

@@ -68,7 +68,7 @@ fn clear(out: &mut Buffer, used: &mut usize, n: usize, ix: Index) -> Index {
     if n != 1 {
         return malformed(out, used, ix);
     }
-    let after = understory_index::clear(ix);
+    let after = index_insert::clear(ix);
     let answer = after.answer;
     show::answer(out, used, answer);
     after.index
@@ -91,7 +91,7 @@ fn insert(out: &mut Buffer, used: &mut usize, line: &[u8], n: usize, ix: Index) 
         return malformed(out, used, ix);
     }
     let aabb = b.aabb;
-    let after = understory_index::insert(ix, aabb, NodeId(p.index, p.generation));
+    let after = index_insert::insert(ix, aabb, NodeId(p.index, p.generation));
     let answer = after.answer;
     match answer {
         Inserted::Key(k) => print::pair(out, used, k.0, k.1),
@@ -107,7 +107,7 @@ fn update(out: &mut Buffer, used: &mut usize, line: &[u8], n: usize, ix: Index) 
         return malformed(out, used, ix);
     }
     let aabb = b.aabb;
-    let after = understory_index::update(ix, Key(p.index, p.generation), aabb);
+    let after = index_update::update(ix, Key(p.index, p.generation), aabb);
     let answer = after.answer;
     show::answer(out, used, answer);
     after.index
@@ -118,7 +118,7 @@ fn remove(out: &mut Buffer, used: &mut usize, line: &[u8], n: usize, ix: Index) 
     if !((n == 2) & p.is_read) {
         return malformed(out, used, ix);
     }
-    let after = understory_index::remove(ix, Key(p.index, p.generation));
+    let after = index_update::remove(ix, Key(p.index, p.generation));
     let answer = after.answer;
     show::answer(out, used, answer);
     after.index
@@ -133,7 +133,7 @@ fn commit(out: &mut Buffer, used: &mut usize, n: usize, ix: Index, room: u32) ->
     let mut old = box_room();
     let mut new = box_room();
     let k = lent(room);
-    let after = understory_index::commit(
+    let after = index_apply::commit(
         ix,
         &mut added[..k],
         &mut removed[..k],
@@ -172,14 +172,14 @@ fn found(out: &mut Buffer, used: &mut usize, answer: Queried, room: &[u32; 2048]
 fn ask_point(out: &mut Buffer, used: &mut usize, ix: Index, x: f64, y: f64, room: u32) {
     let mut entries = entry_room();
     let k = lent(room);
-    let answer = understory_index::query_point(ix, x, y, &mut entries[..k]);
+    let answer = index_reads::query_point(ix, x, y, &mut entries[..k]);
     found(out, used, answer, &entries);
 }
 
 fn ask_rect(out: &mut Buffer, used: &mut usize, ix: Index, rect: Aabb2D, room: u32) {
     let mut entries = entry_room();
     let k = lent(room);
-    let answer = understory_index::query_rect(ix, rect, &mut entries[..k]);
+    let answer = index_reads::query_rect(ix, rect, &mut entries[..k]);
     found(out, used, answer, &entries);
 }
 

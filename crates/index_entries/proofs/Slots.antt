@@ -1,44 +1,18 @@
--- The slot that an insert takes, by cases of the free list.
+-- What a key finds; and the slot that an insert takes, as entry_slots has it.
 use mathlib.Core.Path.{_≡_, refl}
 use mathlib.Core.Bool.{Bool, true, false}
 use mathlib.Core.List.{List}
-use Prim.Native.Nat.{ℕ, _+_, _-_, _<_}
+use Prim.Native.Nat.{ℕ, _<_}
 use native.Mathlib.Omega.{arith}
 use native.Mathlib.Decide.{decLt}
-use borrow.Author.Tests.{eq-eqb, ne-eqb, lt-ltb, le-ltb}
+use borrow.Author.Tests.{lt-ltb, le-ltb}
 use lib.ListN.{getD}
 use lib.Ieee.{Float}
 use Rattle.boxes.specs.declared.Key.{Key}
+pub use Rattle.entry_slots.proofs.Slots.{slot-unused, slot-last, used-unused, used-last, generation-unused, generation-next}
 use Rattle.index_entries.specs.declared.Entry.{Entry}
 use Rattle.index_entries.specs.declared.Found.the-variants as finds
-use Rattle.index_entries.specs.Entries.{nextGeneration, slotFor, usedFor, generationFor, entryAt, liveKey, lookUp}
-
-module _ (generation free : List ℕ) (frees used : ℕ) where
-  pub slot-unused : frees ≡ 0 → slotFor free frees used ≡ used
-  unfolding slotFor
-  slot-unused e = rw (slotFor, eq-eqb frees 0 e)
-
-  pub slot-last : (frees ≡ 0 → ⊥) → slotFor free frees used ≡ getD free (frees - 1) 0
-  unfolding slotFor
-  slot-last n = rw (slotFor, ne-eqb frees 0 n)
-
-  pub used-unused : frees ≡ 0 → usedFor frees used ≡ used + 1
-  unfolding usedFor
-  used-unused e = rw (usedFor, eq-eqb frees 0 e)
-
-  pub used-last : (frees ≡ 0 → ⊥) → usedFor frees used ≡ used
-  unfolding usedFor
-  used-last n = rw (usedFor, ne-eqb frees 0 n)
-
-  pub generation-unused : frees ≡ 0 → generationFor generation free frees used ≡ 1
-  unfolding generationFor
-  generation-unused e = rw (generationFor, eq-eqb frees 0 e)
-
-  pub generation-next : (frees ≡ 0 → ⊥) → generationFor generation free frees used ≡ nextGeneration (getD generation (getD free (frees - 1) 0) 0)
-  unfolding generationFor
-  generation-next n = rw (generationFor, ne-eqb frees 0 n, slot-last n)
-
--- ---- what a key finds
+use Rattle.index_entries.specs.Entries.{entryAt, liveKey, lookUp}
 
 module _ (generation mark payload : List ℕ) (aabb : List Float) (kept : List ℕ) (prev : List Float) (k : Key) where
   pub look-live : (e : Entry) → lookUp generation mark payload aabb kept prev k ≡ finds.Live e → (liveKey generation mark k ≡ true) × (e ≡ entryAt mark payload aabb kept prev (k .0))

@@ -1,15 +1,16 @@
 -- The inner steps of the index, on its tables (document 01, module 5).
-use Prim.Native.Nat.{ℕ, _+_, _-_, _%_, _^_}
+use Prim.Native.Nat.{ℕ}
 use mathlib.Core.Bool.{Bool, true, false, not, _&&_, _||_, cond}
 use mathlib.Core.List.{List}
 use lib.Dec.{ltb, eqb}
-use lib.ListN.{take, getD, set}
+use lib.ListN.{getD}
 use lib.Ieee.{Float}
 use Rattle.boxes.specs.declared.Aabb2D.{Aabb2D}
 use Rattle.boxes.specs.declared.NodeId.{NodeId}
 use Rattle.boxes.specs.declared.Key.{Key}
 use Rattle.cells.specs.Cells.{boxAt, putBox, idAt, putId}
-use Rattle.counting.specs.Times.{times}
+pub use Rattle.entry_slots.specs.Slots.{stands}
+unfoldable pub use Rattle.entry_slots.specs.Slots.{nextGeneration, queueWith, lengthWith, slotFor, usedFor, generationFor}
 use Rattle.index_entries.specs.declared.Mark.{Mark}
 use Rattle.index_entries.specs.declared.Mark.the-variants as is
 use Rattle.index_entries.specs.declared.Previous.{Previous}
@@ -17,23 +18,6 @@ use Rattle.index_entries.specs.declared.Previous.the-variants as was
 use Rattle.index_entries.specs.declared.Entry.{Entry}
 use Rattle.index_entries.specs.declared.Found.{Found}
 use Rattle.index_entries.specs.declared.Found.the-variants as finds
-
--- "Its generation goes up by one past 4,294,967,295 to 1, never 0."
-unfoldable pub nextGeneration : ℕ → ℕ
-nextGeneration g = cond (eqb ((g + 1) % 2 ^ 32) 0) 1 ((g + 1) % 2 ^ 32)
-
--- x stands among the first n
-abbrev pub stands : ℕ → List ℕ → ℕ → Bool
-stands x l n = ltb 0 (times x (take n l))
-
--- "Repeats in the dirty queue do nothing, so first occurrences suffice": x put last, unless it stands there already
-unfoldable pub queueWith : List ℕ → ℕ → ℕ → List ℕ
-queueWith dirty n x = cond (stands x dirty n) dirty (set dirty n x)
-
-unfoldable pub lengthWith : List ℕ → ℕ → ℕ → ℕ
-lengthWith dirty n x = cond (stands x dirty n) n (n + 1)
-
--- ---- entries
 
 -- the mark that a number of the table stands for; 0, an empty slot, is asked for first
 unfoldable pub markOf : ℕ → Mark
@@ -52,17 +36,6 @@ liveKey generation mark k = ltb (k .0) 512 && not (eqb (getD mark (k .0) 0) 0 ||
 
 unfoldable pub lookUp : List ℕ → List ℕ → List ℕ → List Float → List ℕ → List Float → Key → Found
 lookUp generation mark payload aabb kept prev k = cond (liveKey generation mark k) (finds.Live (entryAt mark payload aabb kept prev (k .0))) finds.Dead
-
--- ---- insert: "A freed slot is used again, last freed first", else the next unused one
-
-unfoldable pub slotFor : List ℕ → ℕ → ℕ → ℕ
-slotFor free frees used = cond (eqb frees 0) used (getD free (frees - 1) 0)
-
-unfoldable pub usedFor : ℕ → ℕ → ℕ
-usedFor frees used = cond (eqb frees 0) (used + 1) used
-
-unfoldable pub generationFor : List ℕ → List ℕ → ℕ → ℕ → ℕ
-generationFor generation free frees used = cond (eqb frees 0) 1 (nextGeneration (getD generation (slotFor free frees used) 0))
 
 -- ---- update and remove, by the entry's mark
 

@@ -8,6 +8,12 @@ ghost use Rattle.index_entries.specs.Entries as spec;
 use boxes::Aabb2D;
 use boxes::Key;
 use boxes::NodeId;
+use entry_slots::Taken;
+use entry_slots::frees_after;
+pub use entry_slots::next_generation;
+use entry_slots::next_slot;
+use entry_slots::queue_dirty_slot;
+use entry_slots::used_after;
 
 // A mark, or none.
 pub enum Mark {
@@ -35,40 +41,6 @@ pub struct Entry {
 pub enum Found {
     Dead,
     Live(Entry),
-}
-
-// The generation of a slot that is used again: one higher, past 4,294,967,295 to 1, never 0.
-pub fn next_generation(generation: u32) -> u32
-    ensures { λ r. ⌜ r ≡ spec.nextGeneration generation ⌝ }
-{
-    let next = std::num::wrapping_add_u32(generation, 1);
-    if next == 0 { 1 } else { next }
-}
-
-// Whether a slot stands in the queue.
-fn is_queued(dirty: &[u32; 512], queued: usize, x: u32) -> bool
-    requires { ⌜ (queued ≤ 512) × (length (now dirty) ≡ 512) ⌝ }
-    ensures { λ r. ⌜ r ≡ spec.stands x (now (dirty .entry)) queued ⌝ }
-{
-    let mut found = false;
-    let mut i = 0;
-    while i < queued {
-        found = found | (dirty[i] == x);
-        i += 1;
-    }
-    found
-}
-
-// The slot is put last in the queue, unless it stands there already. The queue's new length is returned.
-fn queue_dirty_slot(dirty: &mut [u32; 512], queued: usize, x: u32) -> usize
-    requires { ⌜ (queued ≤ 512) × (length (now dirty) ≡ 512) × (spec.stands x (now dirty) queued ≡ false → queued < 512) ⌝ }
-    ensures { λ r. ⌜ (now (dirty .exit) ≡ spec.queueWith (now (dirty .entry)) queued x) × (r ≡ spec.lengthWith (now (dirty .entry)) queued x) ⌝ }
-{
-    if is_queued(dirty, queued, x) {
-        return queued;
-    }
-    dirty[queued] = x;
-    queued + 1
 }
 
 // The mark that a number of the table stands for, for a slot that is not empty.
@@ -125,35 +97,6 @@ pub fn look_up<'a>(
     })
 }
 
-// The slot that an insert takes, and its generation there.
-struct Taken {
-    pub slot: u32,
-    pub generation: u32,
-}
-
-// The last freed slot, its generation one on; else the next unused slot, generation 1.
-fn next_slot<'a>(
-    generation: &'a [u32; 512],
-    free: &'a [u32; 512],
-    frees: usize,
-    used: usize,
-) -> Taken
-    requires { ⌜ (used ≤ 512) × (frees ≤ 512) × (spec.slotFor (now free) frees used < 512) ⌝ }
-    ensures { λ r. ⌜ (r .slot ≡ spec.slotFor (now (free .entry)) frees used) × (r .generation ≡ spec.generationFor (now (generation .entry)) (now (free .entry)) frees used) ⌝ }
-{
-    if frees == 0 {
-        return Taken {
-            slot: used as u32,
-            generation: 1,
-        };
-    }
-    let slot = free[frees - 1];
-    Taken {
-        slot,
-        generation: next_generation(generation[slot as usize]),
-    }
-}
-
 // Stores a new entry, marked added, at a slot.
 fn store_entry(
     generation: &mut [u32; 512],
@@ -178,21 +121,6 @@ fn store_entry(
     cells::put_id(payload, x, p);
     cells::put_box(aabb, x, b);
     kept[x] = 0;
-}
-
-// How many slots are used once an insert has taken its slot.
-fn used_after(frees: usize, used: usize) -> usize
-    requires { ⌜ (frees ≡ 0 → used < 512) ⌝ }
-    ensures { λ r. ⌜ r ≡ spec.usedFor frees used ⌝ }
-{
-    if frees == 0 { used + 1 } else { used }
-}
-
-// How many slots stay in the free list then.
-fn frees_after(frees: usize) -> usize
-    ensures { λ r. ⌜ r ≡ frees - 1 ⌝ }
-{
-    if frees == 0 { 0 } else { frees - 1 }
 }
 
 // What an insert leaves beside the tables: where the entry stands, and the lengths.

@@ -18,7 +18,7 @@ fn points(ix: Index, height: f64, sum: u64) -> u64 {
     let mut s = sum;
     let mut k = 0u32;
     while k < 64 {
-        let answer = understory_index::query_point(ix, work::x(k), work::y(k, height), &mut room);
+        let answer = index_reads::query_point(ix, work::x(k), work::y(k, height), &mut room);
         s = answers::queried(s, &room, answer);
         k += 1;
     }
@@ -30,7 +30,7 @@ fn rects(ix: Index, height: f64, sum: u64) -> u64 {
     let mut s = sum;
     let mut k = 0u32;
     while k < 64 {
-        let answer = understory_index::query_rect(ix, work::rect(k, height), &mut room);
+        let answer = index_reads::query_rect(ix, work::rect(k, height), &mut room);
         s = answers::queried(s, &room, answer);
         k += 1;
     }
@@ -43,7 +43,7 @@ fn refusals(ix: Index, height: f64, sum: u64) -> u64 {
     let mut room = [0u32; 4];
     let mut k = 0u32;
     while k < 64 {
-        let answer = understory_index::query_rect(ix, work::rect(k, height), &mut room);
+        let answer = index_reads::query_rect(ix, work::rect(k, height), &mut room);
         s = answers::refused(s, answer);
         k += 1;
     }

@@ -14,7 +14,7 @@ fn update(load: Load, shift: f64) -> Load {
     let mut i = 0u32;
     while i < 512 {
         let aabb = work::place(i, shift);
-        let after = understory_index::update(ix, Key(i, 1), aabb);
+        let after = index_update::update(ix, Key(i, 1), aabb);
         let answer = after.answer;
         s = answers::done(s, answer);
         ix = after.index;
@@ -47,9 +47,9 @@ fn single(
     let mut i = 0u32;
     while i < 512 {
         let aabb = work::place(i, shift);
-        let updated = understory_index::update(ix, Key(i, 1), aabb);
+        let updated = index_update::update(ix, Key(i, 1), aabb);
         let waiting = updated.index;
-        let after = understory_index::commit(waiting, added, removed, old, new);
+        let after = index_apply::commit(waiting, added, removed, old, new);
         let answer = after.answer;
         s = answers::damage(s, answer);
         ix = after.index;
@@ -106,7 +106,7 @@ fn again(
     let mut s = sum;
     let mut k = 0u32;
     while k < 64 {
-        let after = understory_index::commit(ix, added, removed, old, new);
+        let after = index_apply::commit(ix, added, removed, old, new);
         let answer = after.answer;
         s = answers::damage(s, answer);
         last = after.index;

@@ -25,7 +25,7 @@ pub(crate) fn insert(n: u32, sum: u64) -> Load {
     let mut i = 0u32;
     while i < n {
         let aabb = work::place(i, 0.0);
-        let after = understory_index::insert(ix, aabb, NodeId(i, 1));
+        let after = index_insert::insert(ix, aabb, NodeId(i, 1));
         let answer = after.answer;
         s = answers::inserted(s, answer);
         ix = after.index;
@@ -53,7 +53,7 @@ pub(crate) fn commit(
     new: &mut [f64],
 ) -> Load {
     let ix = load.index;
-    let after = understory_index::commit(ix, added, removed, old, new);
+    let after = index_apply::commit(ix, added, removed, old, new);
     let answer = after.answer;
     let index = after.index;
     Load {

@@ -132,7 +132,7 @@ fn put_children(t: Tree, x: u32, room: &mut [u32]) -> usize
     let e = links::segment_end(&t.links.depth, n, at);
     let d = depth_at(&t.links.depth, at);
     let mut slots = [0u32; 256];
-    let m = links::children(&t.links.order, &t.links.depth, at, e, d + 1, &mut slots);
+    let m = link_parts::children(&t.links.order, &t.links.depth, at, e, d + 1, &mut slots);
     put_ids(&slots, m, &t.slots.generation, room);
     m
 }

@@ -15,7 +15,7 @@ use Rattle.clips.specs.declared.clip.ClipRect.{ClipRect}
 use Rattle.clips.specs.declared.clip.ClipRect.the-variants as of
 use Rattle.clips.specs.Clips.{clipRect, clipRadii}
 use Rattle.cells.proofs.Segments.{same, other}
-use Rattle.node_tables.specs.Tables.{rectOf, ofRect, rectAt, putRect, insetsOf, ofInsets, insetsAt, putInsets, affineOf, ofAffine, affineAt, putAffine, squareOf, roundedOf, clipAt, kindOf, edgesFrom, edgesOf, ofClip, putClip, clipRectAt, isThere, putClipRect}
+use Rattle.node_cells.specs.Tables.{rectOf, ofRect, rectAt, putRect, insetsOf, ofInsets, insetsAt, putInsets, affineOf, ofAffine, affineAt, putAffine, squareOf, roundedOf, clipAt, kindOf, edgesFrom, edgesOf, ofClip, putClip, clipRectAt, isThere, putClipRect}
 
 module _ (l : List Float) (i : ℕ) where
   pub rect-same : (r : Rect) → 4 * i + 4 ≤ length l → rectAt (putRect l i r) i ≡ r

@@ -151,7 +151,7 @@ pub fn remove(mut t: Tree, id: NodeId) -> After
     let at = links::position(&l.order, l.count, id.0);
     let e = links::segment_end(&l.depth, l.count, at);
     let mut gone = [0u32; 256];
-    links::post_order(&l.order, &l.depth, at, e, &mut gone);
+    link_parts::post_order(&l.order, &l.depth, at, e, &mut gone);
     let mut slots = t.slots;
     let worlds = t.worlds;
     let keys = t.keys;
@@ -184,7 +184,7 @@ pub fn remove(mut t: Tree, id: NodeId) -> After
         index.frees,
         index.queued,
     );
-    t.links = links::cut_tree(l, at);
+    t.links = link_moves::cut_tree(l, at);
     slots.free = free;
     slots.frees = left.frees;
     waiting.rects = rects;

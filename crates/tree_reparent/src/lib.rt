@@ -37,10 +37,10 @@ fn move_links(t: Tree, at: usize, parent: OptionNodeId) -> Links
 {
     let l = t.links;
     match parent {
-        OptionNodeId::None => links::move_root(l, at),
+        OptionNodeId::None => link_moves::move_root(l, at),
         OptionNodeId::Some(h) => {
             let to = links::position(&l.order, l.count, h.0);
-            links::move_last(l, at, to)
+            link_moves::move_last(l, at, to)
         }
     }
 }

@@ -1,6 +1,6 @@
 -- `call_lists::answer` meets its contract: a note returns at once, and no other line is one. Assumes nothing.
 use borrow.Author.Needs.{needs}
-use Rattle.call_lists.proofs.Notes.{no-note}
+use Rattle.call_states.proofs.Notes.{no-note}
 use Rattle.call_lists.proofs.answer.Statement.{statement}
 use Rattle.call_lists.proofs.answer.Tie as tie
 

@@ -1,8 +1,9 @@
 use mathlib.Core.Path.{sym, _∙_}
 use borrow.Author.Needs.{needs}
 use borrow.Author.Tests.{not-true, not-false}
-use Rattle.tree_commit.proofs.Lengths.{whole}
-use Rattle.tree_commit.proofs.Call.{sound-of, finish-ready, clean, committed}
+use Rattle.tree_work.proofs.Lengths.{whole}
+use Rattle.tree_work.proofs.Places.{sound-of}
+use Rattle.tree_commit.proofs.Call.{finish-ready, clean, committed}
 use Rattle.tree_commit.proofs.commit_sound.Statement.{statement}
 use Rattle.tree_commit.proofs.commit_sound.Tie as tie
 

@@ -1,0 +1,37 @@
+// The setters that call for no commit: tree.rs's `set_z_index` and `set_flags`, by value (see tree_setters).
+ghost use mathlib.Core.Path.{_≡_};
+ghost use Rattle.tree_steps.specs.Setters as spec;
+ghost use Rattle.tree_steps.specs.Setters.{after};
+use box_types::NodeFlags;
+use boxes::NodeId;
+use setter_steps::put_byte;
+use setter_steps::put_level;
+use tree_state::After;
+use tree_state::Refusal;
+use tree_state::Tree;
+use tree_state::Verdict;
+
+pub fn set_z_index(mut t: Tree, id: NodeId, z: i32) -> After
+    ensures { λ r. ⌜ r ≡ after (spec.ofNode t id) (spec.setLevel t (id .0) z) t ⌝ }
+{
+    let v = tree_nodes::of_node(t, id);
+    let Verdict::Accepted = v else {
+        return After { answer: v, tree: t };
+    };
+    let x = id.0 as usize;
+    put_level(&mut t.locals.level, x, z);
+    After { answer: v, tree: t }
+}
+
+pub fn set_flags(mut t: Tree, id: NodeId, flags: NodeFlags) -> After
+    ensures { λ r. ⌜ r ≡ after (spec.flagsVerdict t id flags) (spec.setFlags t (id .0) flags) t ⌝ }
+{
+    let node = tree_nodes::of_node(t, id);
+    let v = tree_state::check(node, flags.is_known(), Refusal::UnknownFlags);
+    let Verdict::Accepted = v else {
+        return After { answer: v, tree: t };
+    };
+    let x = id.0 as usize;
+    put_byte(&mut t.locals.flags, x, flags.0);
+    After { answer: v, tree: t }
+}
