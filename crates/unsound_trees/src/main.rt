@@ -6,6 +6,7 @@ mod calls; // every call
 mod same; // whether two trees are the same
 mod set; // a change by hand
 
+use crate::calls::Tally;
 use box_types::LocalNode;
 use box_types::OptionNodeId;
 use call_lines::line;
@@ -78,8 +79,7 @@ fn chain_line(out: &mut Buffer, used: &mut usize, line: &[u8], t: Tree) -> Tree 
 }
 
 // The line itself, and the counts.
-fn every_line(out: &mut Buffer, used: &mut usize, line: &[u8], t: Tree) -> Tree {
-    let c = calls::every(t);
+fn show(out: &mut Buffer, used: &mut usize, line: &[u8], c: Tally) {
     print::text(out, used, line);
     print::text(out, used, b": ");
     print::count(out, used, c.refused as usize);
@@ -88,6 +88,10 @@ fn every_line(out: &mut Buffer, used: &mut usize, line: &[u8], t: Tree) -> Tree 
     print::text(out, used, b" refused 1, ");
     print::count(out, used, c.changed as usize);
     print::text(out, used, b" with a change\n");
+}
+
+fn every_line(out: &mut Buffer, used: &mut usize, line: &[u8], t: Tree) -> Tree {
+    show(out, used, line, calls::every(t));
     t
 }
 
