@@ -1,5 +1,14 @@
 // Whether two trees are the same to the bit: every table, also what stands behind what is in use.
+use links::Links;
+use tree_state::Keys;
+use tree_state::Locals;
+use tree_state::Marks;
+use tree_state::Pending;
+use tree_state::Slots;
 use tree_state::Tree;
+use tree_state::Worlds;
+use understory_index::FlatVec;
+use understory_index::Index;
 
 // ---- tables of each type
 
@@ -73,60 +82,82 @@ pub(crate) fn floats(a: &[f64], b: &[f64]) -> bool {
     true
 }
 
-// ---- the tables
+// ---- groups of tables
 
-fn counts(a: Tree, b: Tree) -> bool {
-    (a.slots.used == b.slots.used)
-        & (a.slots.frees == b.slots.frees)
-        & (a.links.count == b.links.count)
-        & (a.pending.count == b.pending.count)
-        & (a.index.used == b.index.used)
-        & (a.index.frees == b.index.frees)
-        & (a.index.queued == b.index.queued)
+fn slots(a: Slots, b: Slots) -> bool {
+    let counts = (a.used == b.used) & (a.frees == b.frees);
+    counts & words(&a.generation, &b.generation) & words(&a.free, &b.free)
 }
 
-fn words_of(a: Tree, b: Tree) -> bool {
-    words(&a.slots.generation, &b.slots.generation)
-        & words(&a.slots.free, &b.slots.free)
-        & words(&a.links.order, &b.links.order)
-        & words(&a.links.depth, &b.links.depth)
-        & words(&a.keys.slot, &b.keys.slot)
-        & words(&a.keys.generation, &b.keys.generation)
-        & words(&a.index.generation, &b.index.generation)
-        & words(&a.index.payload, &b.index.payload)
-        & words(&a.index.free, &b.index.free)
-        & words(&a.index.dirty, &b.index.dirty)
+fn links_of(a: Links, b: Links) -> bool {
+    (a.count == b.count) & words(&a.order, &b.order) & words(&a.depth, &b.depth)
 }
 
-fn small_of(a: Tree, b: Tree) -> bool {
-    bytes(&a.locals.kind, &b.locals.kind)
-        & bytes(&a.locals.flags, &b.locals.flags)
-        & bytes(&a.index.mark, &b.index.mark)
-        & bytes(&a.index.kept, &b.index.kept)
-        & bytes(&a.index.backend.present, &b.index.backend.present)
-        & levels(&a.locals.level, &b.locals.level)
-        & truths(&a.marks.marked, &b.marks.marked)
-        & truths(&a.marks.transform, &b.marks.transform)
-        & truths(&a.marks.clip, &b.marks.clip)
-        & truths(&a.keys.committed, &b.keys.committed)
-        & truths(&a.worlds.clipped, &b.worlds.clipped)
+fn shapes(a: Locals, b: Locals) -> bool {
+    floats(&a.bounds, &b.bounds)
+        & floats(&a.slop, &b.slop)
+        & floats(&a.transform, &b.transform)
+        & floats(&a.clip, &b.clip)
 }
 
-fn floats_of(a: Tree, b: Tree) -> bool {
-    floats(&a.locals.bounds, &b.locals.bounds)
-        & floats(&a.locals.slop, &b.locals.slop)
-        & floats(&a.locals.transform, &b.locals.transform)
-        & floats(&a.locals.clip, &b.locals.clip)
-        & floats(&a.worlds.transform, &b.worlds.transform)
-        & floats(&a.worlds.clip, &b.worlds.clip)
-        & floats(&a.worlds.bounds, &b.worlds.bounds)
-        & floats(&a.worlds.hit_bounds, &b.worlds.hit_bounds)
-        & floats(&a.pending.rects, &b.pending.rects)
-        & floats(&a.index.aabb, &b.index.aabb)
-        & floats(&a.index.prev, &b.index.prev)
-        & floats(&a.index.backend.boxes, &b.index.backend.boxes)
+fn locals(a: Locals, b: Locals) -> bool {
+    shapes(a, b) & bytes(&a.kind, &b.kind) & bytes(&a.flags, &b.flags) & levels(&a.level, &b.level)
+}
+
+fn worlds(a: Worlds, b: Worlds) -> bool {
+    floats(&a.transform, &b.transform)
+        & truths(&a.clipped, &b.clipped)
+        & floats(&a.clip, &b.clip)
+        & floats(&a.bounds, &b.bounds)
+        & floats(&a.hit_bounds, &b.hit_bounds)
+}
+
+fn marks(a: Marks, b: Marks) -> bool {
+    truths(&a.marked, &b.marked) & truths(&a.transform, &b.transform) & truths(&a.clip, &b.clip)
+}
+
+fn keys(a: Keys, b: Keys) -> bool {
+    truths(&a.committed, &b.committed)
+        & words(&a.slot, &b.slot)
+        & words(&a.generation, &b.generation)
+}
+
+fn pending(a: Pending, b: Pending) -> bool {
+    (a.count == b.count) & floats(&a.rects, &b.rects)
+}
+
+fn backend(a: FlatVec, b: FlatVec) -> bool {
+    bytes(&a.present, &b.present) & floats(&a.boxes, &b.boxes)
+}
+
+fn entries(a: Index, b: Index) -> bool {
+    words(&a.generation, &b.generation) & bytes(&a.mark, &b.mark) & words(&a.payload, &b.payload)
+}
+
+fn entry_boxes(a: Index, b: Index) -> bool {
+    floats(&a.aabb, &b.aabb) & bytes(&a.kept, &b.kept) & floats(&a.prev, &b.prev)
+}
+
+fn lists(a: Index, b: Index) -> bool {
+    let counts = (a.used == b.used) & (a.frees == b.frees) & (a.queued == b.queued);
+    counts & words(&a.free, &b.free) & words(&a.dirty, &b.dirty)
+}
+
+fn index(a: Index, b: Index) -> bool {
+    entries(a, b) & entry_boxes(a, b) & lists(a, b) & backend(a.backend, b.backend)
+}
+
+fn records(a: Tree, b: Tree) -> bool {
+    locals(a.locals, b.locals) & worlds(a.worlds, b.worlds)
+}
+
+fn states(a: Tree, b: Tree) -> bool {
+    slots(a.slots, b.slots)
+        & links_of(a.links, b.links)
+        & marks(a.marks, b.marks)
+        & keys(a.keys, b.keys)
 }
 
 pub(crate) fn trees(a: Tree, b: Tree) -> bool {
-    counts(a, b) & words_of(a, b) & small_of(a, b) & floats_of(a, b)
+    records(a, b) & states(a, b) & pending(a.pending, b.pending) & index(a.index, b.index)
 }

@@ -1,5 +1,5 @@
-use mathlib.Core.Path.{_≡_}
-use Prim.Native.Nat.{_+_, _-_, _≤_, _<_}
+-- `unsound_trees::lines` is safe and ends. The measure is what is left of the list. Assumes nothing.
+use Prim.Native.Nat.{_+_, _-_, _≤_}
 use borrow.Author.Needs.{needs}
 use lib.ListN.{length}
 use Rattle.unsound_trees.proofs.lines.Statement.{statement}

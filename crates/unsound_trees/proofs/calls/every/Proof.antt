@@ -1,7 +1,6 @@
-use mathlib.Core.Path.{_≡_}
-use Prim.Native.Nat.{_+_, _-_, _≤_, _<_}
+-- `unsound_trees::calls::every` is safe and ends. The measure is how many calls are left. Assumes nothing.
+use Prim.Native.Nat.{_-_, _≤_}
 use borrow.Author.Needs.{needs}
-use lib.ListN.{length}
 use Rattle.unsound_trees.proofs.calls.every.Statement.{statement}
 use Rattle.unsound_trees.proofs.calls.every.Tie as tie
 
