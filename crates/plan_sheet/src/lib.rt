@@ -1,10 +1,12 @@
 // The plan sheet (document 01): its lines, and the reader.
 ghost use mathlib.Core.Path.{_≡_};
 ghost use mathlib.Core.Bool.{_&&_};
+ghost use mathlib.Core.List.{[]};
 ghost use Prim.Native.Nat.{_+_, _*_, _≤_, _<_};
 ghost use lib.IntN.{pos};
 ghost use lib.Signed.{leZ};
 ghost use lib.ListN.{length, drop};
+ghost use lib.Seq.{paste};
 ghost use Rattle.plan_sheet.specs.Sheet as spec;
 ghost use Rattle.plan_sheet.specs.Told.{ruleOf, boundOf, numberOf, rowsOf, toldLines, toldCount, told};
 
@@ -177,4 +179,74 @@ fn clipped_before(table: &[i64], n: usize, k: i64) -> bool
         i += 1;
     }
     false
+}
+
+fn parent_earlier(n: usize, row: &[i64; 11]) -> bool
+    requires { ⌜ n ≤ 1000 ⌝ }
+    ensures { λ r. ⌜ r ≡ spec.within (pos 0) (pos n) (spec.column (now (row .entry)) 0) ⌝ }
+{
+    ranged(row, 0, 0, n as i64)
+}
+
+fn clip_place_open(places: u32, table: &[i64], n: usize, row: &[i64; 11]) -> bool
+    requires { ⌜ (n ≤ 1000) × (n * 6 ≤ length (now table)) ⌝ }
+    ensures { λ r. ⌜ r ≡ spec.clipPlaceOpen places (rowsOf 6 n (now (table .entry))) (spec.clipOf (now (row .entry))) ⌝ }
+{
+    let k = row[0];
+    ranged(row, 0, 1, places as i64) & !clipped_before(table, n, k)
+}
+
+// Whether a line fits the n lines of its section before it.
+fn fits_before(kind: Kind, table: &[i64], n: usize, row: &[i64; 11]) -> bool
+    requires { ⌜ (n ≤ 1000) × (n * (ruleOf kind .width) ≤ length (now table)) ⌝ }
+    ensures { λ r. ⌜ r ≡ ruleOf kind .fitting (rowsOf (ruleOf kind .width) n (now (table .entry))) (now (row .entry)) ⌝ }
+{
+    match kind {
+        Kind::Count(_) => true,
+        Kind::Place => parent_earlier(n, row),
+        Kind::Clip(places) => clip_place_open(places, table, n, row),
+        Kind::Tap => true,
+    }
+}
+
+// ---- sections
+
+// The first `width` numbers of a row, stored from `at` on.
+fn put_row(table: &mut [i64], at: usize, width: usize, row: &[i64; 11])
+    requires { ⌜ (width ≤ 11) × (at ≤ 11000) × (at + width ≤ length (now table)) × (length (now row) ≡ 11) ⌝ }
+    ensures { λ _. ⌜ now (table .exit) ≡ paste (now (table .entry)) at (now (row .entry)) width ⌝ }
+{
+    let mut j = 0;
+    while j < width {
+        let z = row[j];
+        table[at + j] = z;
+        j += 1;
+    }
+}
+
+// n lines of one kind, the first of them the line `line`, from a position on; a table takes their numbers.
+fn read_section(s: &[u8], from: usize, kind: Kind, n: usize, line: usize, table: &mut [i64]) -> Lines
+    requires { ⌜ (n ≤ 1000) × (line ≤ 3000) × (boundOf kind ≤ 1000) × (n * (ruleOf kind .width) ≤ length (now table)) ⌝ }
+    ensures { λ r. ⌜ toldLines (ruleOf kind .width) (now (table .exit)) (now (s .entry)) r ≡ spec.section (ruleOf kind) n [] line (drop from (now (s .entry))) ⌝ }
+{
+    let width = width_of(kind);
+    let mut at = from;
+    let mut i = 0;
+    while i < n {
+        let f = sheet_lines::fields_at(s, at, width);
+        if !f.good {
+            return Lines::Stopped(Refusal::Malformed, line + i);
+        }
+        let row = f.row;
+        if !in_range(kind, &row) {
+            return Lines::Stopped(Refusal::OutOfRange, line + i);
+        }
+        if !fits_before(kind, table, i, &row) {
+            return Lines::Stopped(Refusal::BadPlace, line + i);
+        }
+        put_row(table, i * width, width, &row);
+        at = f.next;
+        i += 1;
+    }
+    Lines::Ended(n, at)
 }
