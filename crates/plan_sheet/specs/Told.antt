@@ -1,9 +1,9 @@
 -- What the enums and structs of the reader stand for, in the sheet's definitions.
-use Prim.Native.Nat.{ℕ, zero, suc}
+use Prim.Native.Nat.{ℕ, zero, suc, _+_, _*_}
 use mathlib.Core.List.{List, [], _∷_}
 use lib.IntN.{ℤ, pos}
-use lib.ListN.{take, drop}
-use Rattle.plan_sheet.specs.Sheet.{Rule, countRule, placeRule, clipRule, tapRule, Section, stopped, ended, Sheet, Read, refused, sheet}
+use lib.ListN.{length, take, drop}
+use Rattle.plan_sheet.specs.Sheet.{Rule, countRule, placeRule, clipRule, tapRule, Section, stopped, ended, counted, Sheet, Read, refused, sheet, thenRead, atEnd}
 use Rattle.plan_sheet.specs.declared.Kind.{Kind}
 use Rattle.plan_sheet.specs.declared.Kind.the-variants as kind
 use Rattle.plan_sheet.specs.declared.Refusal.{Refusal}
@@ -41,15 +41,38 @@ unfoldable pub rowsOf : ℕ → ℕ → List ℤ → List (List ℤ)
 rowsOf width zero table = []
 rowsOf width (suc n) table = take width table ∷ rowsOf width n (drop width table)
 
+-- the row i, counted from 0
+abbrev pub rowAt : ℕ → ℕ → List ℤ → List ℤ
+rowAt width i table = take width (drop (i * width) table)
+
 -- lines that were read into a table, with the position behind them among the bytes s
 abbrev pub toldLines : ℕ → List ℤ → List ℕ → Lines → Section
 toldLines width table s (lines.Stopped r at) = stopped (numberOf r) at
 toldLines width table s (lines.Ended n next) = ended (rowsOf width n table) (drop next s)
 
+-- how many lines were read
+abbrev pub countOf : Lines → ℕ
+countOf (lines.Stopped r at) = 0
+countOf (lines.Ended n next) = n
+
 -- a count that was read
 abbrev pub toldCount : List ℕ → Lines → Section
 toldCount s (lines.Stopped r at) = stopped (numberOf r) at
 toldCount s (lines.Ended n next) = ended ((pos n ∷ []) ∷ []) (drop next s)
+
+-- ---- the sheet's reading, by sections
+
+-- the taps and the end, once places and clips are read
+abbrev pub fromTaps : List (List ℤ) → List (List ℤ) → List ℕ → Read
+fromTaps places clips s =
+    let m = length places + length clips in
+    thenRead (counted tapRule 1000 (3 + m) s) (λ taps rest. atEnd (4 + m + length taps) (record { places = places; clips = clips; taps = taps }) rest)
+
+-- the clips and what follows, once places are read
+abbrev pub fromClips : List (List ℤ) → List ℕ → Read
+fromClips places s =
+    let n = length places in
+    thenRead (counted (clipRule n) n (2 + n) s) (λ clips rest. fromTaps places clips rest)
 
 abbrev pub toldAnswer : Sheet → Answer → Read
 toldAnswer whole answer.Sheet = sheet whole

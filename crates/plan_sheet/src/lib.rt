@@ -8,7 +8,7 @@ ghost use lib.Signed.{leZ};
 ghost use lib.ListN.{length, drop};
 ghost use lib.Seq.{paste};
 ghost use Rattle.plan_sheet.specs.Sheet as spec;
-ghost use Rattle.plan_sheet.specs.Told.{ruleOf, boundOf, numberOf, rowsOf, toldLines, toldCount, told};
+ghost use Rattle.plan_sheet.specs.Told.{ruleOf, boundOf, numberOf, rowsOf, rowAt, toldLines, toldCount, countOf, told, fromClips, fromTaps};
 
 // A place: its parent (0 none), orientation, shift, bounds, slop, level and flags.
 pub struct PlaceLine {
@@ -227,7 +227,7 @@ fn put_row(table: &mut [i64], at: usize, width: usize, row: &[i64; 11])
 // n lines of one kind, the first of them the line `line`, from a position on; a table takes their numbers.
 fn read_section(s: &[u8], from: usize, kind: Kind, n: usize, line: usize, table: &mut [i64]) -> Lines
     requires { ⌜ (n ≤ 1000) × (line ≤ 3000) × (boundOf kind ≤ 1000) × (n * (ruleOf kind .width) ≤ length (now table)) ⌝ }
-    ensures { λ r. ⌜ toldLines (ruleOf kind .width) (now (table .exit)) (now (s .entry)) r ≡ spec.section (ruleOf kind) n [] line (drop from (now (s .entry))) ⌝ }
+    ensures { λ r. ⌜ (toldLines (ruleOf kind .width) (now (table .exit)) (now (s .entry)) r ≡ spec.section (ruleOf kind) n [] line (drop from (now (s .entry)))) × (countOf r ≤ n) ⌝ }
 {
     let width = width_of(kind);
     let mut at = from;
@@ -249,4 +249,32 @@ fn read_section(s: &[u8], from: usize, kind: Kind, n: usize, line: usize, table:
         i += 1;
     }
     Lines::Ended(n, at)
+}
+
+// A count: a line with one number, from 0 to `most`.
+fn read_count(s: &[u8], at: usize, most: u32, line: usize) -> Lines
+    requires { ⌜ most ≤ 1000 ⌝ }
+    ensures { λ r. ⌜ (toldCount (now (s .entry)) r ≡ spec.section (spec.countRule most) 1 [] line (drop at (now (s .entry)))) × (countOf r ≤ most) ⌝ }
+{
+    let f = sheet_lines::fields_at(s, at, 1);
+    if !f.good {
+        return Lines::Stopped(Refusal::Malformed, line);
+    }
+    let row = f.row;
+    if !count_in_range(most, &row) {
+        return Lines::Stopped(Refusal::OutOfRange, line);
+    }
+    let z = row[0];
+    Lines::Ended(z as usize, f.next)
+}
+
+// A count, and as many lines of one kind.
+fn counted(s: &[u8], at: usize, kind: Kind, most: u32, line: usize, table: &mut [i64]) -> Lines
+    requires { ⌜ (most ≤ 1000) × (line ≤ 2000) × (boundOf kind ≤ 1000) × (most * (ruleOf kind .width) ≤ length (now table)) ⌝ }
+    ensures { λ r. ⌜ (toldLines (ruleOf kind .width) (now (table .exit)) (now (s .entry)) r ≡ spec.counted (ruleOf kind) most line (drop at (now (s .entry)))) × (countOf r ≤ most) ⌝ }
+{
+    match read_count(s, at, most, line) {
+        Lines::Stopped(why, l) => Lines::Stopped(why, l),
+        Lines::Ended(n, next) => read_section(s, next, kind, n, line + 1, table),
+    }
 }

@@ -46,8 +46,9 @@ same-length c = c .before .before .before .before .loop .inv .long
 -- src/lib.rt:238:13
 returns : tie.Need-returns Inv-loop μ-loop
 returns c = let a = c .before .before .before .before .before .before .before .args in
-    turn-21 (a .kind) (a .n) (a .line) (a .from) (a .s .now) (a .table .now) (c .before .before .before .before .loop .table) (c .before .before .before .before .loop .at) (c .before .before .before .before .loop .i) (c .before .before .before .before .loop .inv)
-    (c .before .before .before .before .before .width-of .result) (c .before .before .before .before .before .width-of .ensures .0) (c .before .before .before .before .before .before .before .pre .0) (c .before .before .before .before .before .before .before .pre .2) (c .before .before .before .before .before .before .before .pre .3) (c .before .before .before .loop-test .taken) (c .before .before .fields-at .result) (c .before .before .fields-at .ensures) (c .if1 .taken)
+    (turn-21 (a .kind) (a .n) (a .line) (a .from) (a .s .now) (a .table .now) (c .before .before .before .before .loop .table) (c .before .before .before .before .loop .at) (c .before .before .before .before .loop .i) (c .before .before .before .before .loop .inv)
+      (c .before .before .before .before .before .width-of .result) (c .before .before .before .before .before .width-of .ensures .0) (c .before .before .before .before .before .before .before .pre .0) (c .before .before .before .before .before .before .before .pre .2) (c .before .before .before .before .before .before .before .pre .3) (c .before .before .before .loop-test .taken) (c .before .before .fields-at .result) (c .before .before .fields-at .ensures) (c .if1 .taken),
+    omega arith)
 
 -- src/lib.rt:241:13
 in-range-requires : tie.Need-in-range-requires Inv-loop μ-loop
@@ -64,9 +65,10 @@ same-length-2 c = c .before .before .before .before .before .before .before .bef
 -- src/lib.rt:242:13
 returns-2 : tie.Need-returns-2 Inv-loop μ-loop
 returns-2 c = let a = c .before .before .before .before .before .before .before .before .before .before .before .args in
-    turn-22 (a .kind) (a .n) (a .line) (a .from) (a .s .now) (a .table .now) (c .before .before .before .before .before .before .before .before .loop .table) (c .before .before .before .before .before .before .before .before .loop .at) (c .before .before .before .before .before .before .before .before .loop .i) (c .before .before .before .before .before .before .before .before .loop .inv)
-    (c .before .before .before .before .before .before .before .before .before .width-of .result) (c .before .before .before .before .before .before .before .before .before .width-of .ensures .0) (c .before .before .before .before .before .before .before .before .before .before .before .pre .0) (c .before .before .before .before .before .before .before .before .before .before .before .pre .2) (c .before .before .before .before .before .before .before .before .before .before .before .pre .3) (c .before .before .before .before .before .before .before .loop-test .taken) (c .before .before .before .before .before .before .fields-at .result) (c .before .before .before .before .before .before .fields-at .ensures) (c .before .before .before .before .if1 .left)
-    (c .before .in-range .result) (c .before .in-range .ensures) (c .if2 .taken)
+    (turn-22 (a .kind) (a .n) (a .line) (a .from) (a .s .now) (a .table .now) (c .before .before .before .before .before .before .before .before .loop .table) (c .before .before .before .before .before .before .before .before .loop .at) (c .before .before .before .before .before .before .before .before .loop .i) (c .before .before .before .before .before .before .before .before .loop .inv)
+      (c .before .before .before .before .before .before .before .before .before .width-of .result) (c .before .before .before .before .before .before .before .before .before .width-of .ensures .0) (c .before .before .before .before .before .before .before .before .before .before .before .pre .0) (c .before .before .before .before .before .before .before .before .before .before .before .pre .2) (c .before .before .before .before .before .before .before .before .before .before .before .pre .3) (c .before .before .before .before .before .before .before .loop-test .taken) (c .before .before .before .before .before .before .fields-at .result) (c .before .before .before .before .before .before .fields-at .ensures) (c .before .before .before .before .if1 .left)
+      (c .before .in-range .result) (c .before .in-range .ensures) (c .if2 .taken),
+    omega arith)
 
 -- src/lib.rt:244:13
 fits-before-requires : tie.Need-fits-before-requires Inv-loop μ-loop
@@ -85,9 +87,10 @@ same-length-3 c = c .before .before .before .before .before .before .before .bef
 -- src/lib.rt:245:13
 returns-3 : tie.Need-returns-3 Inv-loop μ-loop
 returns-3 c = let a = c .before .before .before .before .before .before .before .before .before .before .before .before .before .before .before .args in
-    turn-23 (a .kind) (a .n) (a .line) (a .from) (a .s .now) (a .table .now) (c .before .before .before .before .before .before .before .before .before .before .before .before .loop .table) (c .before .before .before .before .before .before .before .before .before .before .before .before .loop .at) (c .before .before .before .before .before .before .before .before .before .before .before .before .loop .i) (c .before .before .before .before .before .before .before .before .before .before .before .before .loop .inv)
-    (c .before .before .before .before .before .before .before .before .before .before .before .before .before .width-of .result) (c .before .before .before .before .before .before .before .before .before .before .before .before .before .width-of .ensures .0) (c .before .before .before .before .before .before .before .before .before .before .before .before .before .before .before .pre .0) (c .before .before .before .before .before .before .before .before .before .before .before .before .before .before .before .pre .2) (c .before .before .before .before .before .before .before .before .before .before .before .before .before .before .before .pre .3) (c .before .before .before .before .before .before .before .before .before .before .before .loop-test .taken) (c .before .before .before .before .before .before .before .before .before .before .fields-at .result) (c .before .before .before .before .before .before .before .before .before .before .fields-at .ensures) (c .before .before .before .before .before .before .before .before .if1 .left)
-    (c .before .before .before .before .before .in-range .result) (c .before .before .before .before .before .in-range .ensures) (c .before .before .before .before .if2 .left) (c .before .fits-before .result) (c .before .fits-before .ensures) (c .if3 .taken)
+    (turn-23 (a .kind) (a .n) (a .line) (a .from) (a .s .now) (a .table .now) (c .before .before .before .before .before .before .before .before .before .before .before .before .loop .table) (c .before .before .before .before .before .before .before .before .before .before .before .before .loop .at) (c .before .before .before .before .before .before .before .before .before .before .before .before .loop .i) (c .before .before .before .before .before .before .before .before .before .before .before .before .loop .inv)
+      (c .before .before .before .before .before .before .before .before .before .before .before .before .before .width-of .result) (c .before .before .before .before .before .before .before .before .before .before .before .before .before .width-of .ensures .0) (c .before .before .before .before .before .before .before .before .before .before .before .before .before .before .before .pre .0) (c .before .before .before .before .before .before .before .before .before .before .before .before .before .before .before .pre .2) (c .before .before .before .before .before .before .before .before .before .before .before .before .before .before .before .pre .3) (c .before .before .before .before .before .before .before .before .before .before .before .loop-test .taken) (c .before .before .before .before .before .before .before .before .before .before .fields-at .result) (c .before .before .before .before .before .before .before .before .before .before .fields-at .ensures) (c .before .before .before .before .before .before .before .before .if1 .left)
+      (c .before .before .before .before .before .in-range .result) (c .before .before .before .before .before .in-range .ensures) (c .before .before .before .before .if2 .left) (c .before .fits-before .result) (c .before .fits-before .ensures) (c .if3 .taken),
+    omega arith)
 
 -- src/lib.rt:247:24
 mul-put-row : tie.Need-mul-put-row Inv-loop μ-loop
@@ -128,7 +131,7 @@ same-length-4 c = c .before .loop .inv .long
 -- src/lib.rt:228:1
 returns-4 : tie.Need-returns-4 Inv-loop μ-loop
 returns-4 c = let a = c .before .before .before .before .args in
-    all-read (a .kind) (a .n) (a .line) (a .from) (a .s .now) (a .table .now) (c .before .loop .table) (c .before .loop .at) (c .before .loop .i) (c .before .loop .inv) (c .loop-test .left)
+    (all-read (a .kind) (a .n) (a .line) (a .from) (a .s .now) (a .table .now) (c .before .loop .table) (c .before .loop .at) (c .before .loop .i) (c .before .loop .inv) (c .loop-test .left), omega arith)
 
 pub read-section-spec : {M : Type 1} → statement M
 read-section-spec =
