@@ -278,3 +278,133 @@ fn counted(s: &[u8], at: usize, kind: Kind, most: u32, line: usize, table: &mut 
         Lines::Ended(n, next) => read_section(s, next, kind, n, line + 1, table),
     }
 }
+
+// ---- the sheet
+
+// How many bytes there are from a position on.
+fn left(s: &[u8], at: usize) -> usize
+    ensures { λ r. ⌜ r ≡ length (drop at (now (s .entry))) ⌝ }
+{
+    if at >= s.len() {
+        return 0;
+    }
+    s.len() - at
+}
+
+fn refused(why: Refusal, line: usize) -> Parsed
+    ensures { λ r. ⌜ told r ≡ spec.refused (numberOf why) line ⌝ }
+{
+    Parsed {
+        answer: Answer::Refused(why, line),
+        places: [0i64; 2816],
+        placed: 0,
+        clips: [0i64; 1536],
+        clipped: 0,
+        taps: [0i64; 3000],
+        tapped: 0,
+    }
+}
+
+// The taps and the end, behind n places and m clips.
+fn from_taps(s: &[u8], at: usize, places: [i64; 2816], n: usize, clips: [i64; 1536], m: usize) -> Parsed
+    requires { ⌜ (n ≤ 256) × (m ≤ 256) ⌝ }
+    ensures { λ r. ⌜ told r ≡ fromTaps (rowsOf 11 n places) (rowsOf 6 m clips) (drop at (now (s .entry))) ⌝ }
+{
+    let mut taps = [0i64; 3000];
+    match counted(s, at, Kind::Tap, 1000, 3 + (n + m), &mut taps) {
+        Lines::Stopped(why, l) => refused(why, l),
+        Lines::Ended(k, next) => {
+            if next < s.len() {
+                return refused(Refusal::Trailing, 4 + (n + m) + k);
+            }
+            Parsed {
+                answer: Answer::Sheet,
+                places,
+                placed: n,
+                clips,
+                clipped: m,
+                taps,
+                tapped: k,
+            }
+        }
+    }
+}
+
+// The clips and what follows, behind n places.
+fn from_clips(s: &[u8], at: usize, places: [i64; 2816], n: usize) -> Parsed
+    requires { ⌜ n ≤ 256 ⌝ }
+    ensures { λ r. ⌜ told r ≡ fromClips (rowsOf 11 n places) (drop at (now (s .entry))) ⌝ }
+{
+    let mut clips = [0i64; 1536];
+    let most = n as u32;
+    match counted(s, at, Kind::Clip(most), most, 2 + n, &mut clips) {
+        Lines::Stopped(why, l) => refused(why, l),
+        Lines::Ended(m, next) => from_taps(s, next, places, n, clips, m),
+    }
+}
+
+// The sheet that begins at a position: its lines, or why it is refused, with the line, counted from 1 there.
+pub fn sheet_at(s: &[u8], at: usize) -> Parsed
+    ensures { λ r. ⌜ told r ≡ spec.readSheet (drop at (now (s .entry))) ⌝ }
+{
+    if left(s, at) > 65_536 {
+        return refused(Refusal::TooLong, 0);
+    }
+    let mut places = [0i64; 2816];
+    match counted(s, at, Kind::Place, 256, 1, &mut places) {
+        Lines::Stopped(why, l) => refused(why, l),
+        Lines::Ended(n, next) => from_clips(s, next, places, n),
+    }
+}
+
+// ---- rows
+
+// Inner: a row of the places.
+pub fn place_at(places: &[i64; 2816], i: usize) -> PlaceLine
+    requires { ⌜ i < 256 ⌝ }
+    ensures { λ r. ⌜ r ≡ spec.placeOf (rowAt 11 i (now (places .entry))) ⌝ }
+{
+    let p = i * 11;
+    PlaceLine {
+        parent: places[p],
+        orientation: places[p + 1],
+        x: places[p + 2],
+        y: places[p + 3],
+        x0: places[p + 4],
+        y0: places[p + 5],
+        x1: places[p + 6],
+        y1: places[p + 7],
+        slop: places[p + 8],
+        level: places[p + 9],
+        flags: places[p + 10],
+    }
+}
+
+// Inner: a row of the clips.
+pub fn clip_at(clips: &[i64; 1536], i: usize) -> ClipLine
+    requires { ⌜ i < 256 ⌝ }
+    ensures { λ r. ⌜ r ≡ spec.clipOf (rowAt 6 i (now (clips .entry))) ⌝ }
+{
+    let p = i * 6;
+    ClipLine {
+        place: clips[p],
+        x0: clips[p + 1],
+        y0: clips[p + 2],
+        x1: clips[p + 3],
+        y1: clips[p + 4],
+        radius: clips[p + 5],
+    }
+}
+
+// Inner: a row of the taps.
+pub fn tap_at(taps: &[i64; 3000], i: usize) -> TapLine
+    requires { ⌜ i < 1000 ⌝ }
+    ensures { λ r. ⌜ r ≡ spec.tapOf (rowAt 3 i (now (taps .entry))) ⌝ }
+{
+    let p = i * 3;
+    TapLine {
+        x: taps[p],
+        y: taps[p + 1],
+        flags: taps[p + 2],
+    }
+}
