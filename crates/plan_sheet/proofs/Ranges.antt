@@ -129,25 +129,25 @@ module _ (zs : List ℤ) where
       let f : xy ≡ true = and-right o xy e1 in
       row-uncut zs 11 l
       (more zs 10
-        (more zs 9
-          (more zs 8
-            (more zs 7
-              (more zs 6
-                (more zs 5
-                  (more zs 4
-                    (more zs 3
-                      (more zs 2
-                        (more zs 1 (more zs 0 (none zs) (uncut (pos 0) (pos n) (lit< tt) m (column zs 0) p))
-                          (uncut (pos 0) (pos 7) (lit< tt) (lit< tt) (column zs 1) (and-left o xy e1)))
-                        (coordinate-uncut (column zs 2) (and-left (c 2) (c 3) f)))
-                      (coordinate-uncut (column zs 3) (and-right (c 2) (c 3) f)))
-                    (coordinate-uncut (column zs 4) (and-left (c 4) (c 5) b2)))
-                  (coordinate-uncut (column zs 5) (and-right (c 4) (c 5) b2)))
-                (coordinate-uncut (column zs 6) (and-right (c 4 && c 5) (c 6) b3)))
-              (coordinate-uncut (column zs 7) (and-right (c 4 && c 5 && c 6) (c 7) b)))
-            (uncut (pos 0) (pos 1000) (lit< tt) (lit< tt) (column zs 8) (and-right (o && xy && box) slop e3)))
-          (uncut (negℤ (pos 2147483648)) (pos 2147483647) (lit< tt) (lit< tt) (column zs 9) (and-right (o && xy && box && slop) level e4)))
-        (uncut (pos 0) (pos 7) (lit< tt) (lit< tt) (column zs 10) (and-right (o && xy && box && slop && level) flags e)))
+      (more zs 9
+      (more zs 8
+      (more zs 7
+      (more zs 6
+      (more zs 5
+      (more zs 4
+      (more zs 3
+      (more zs 2
+      (more zs 1 (more zs 0 (none zs) (uncut (pos 0) (pos n) (lit< tt) m (column zs 0) p))
+      (uncut (pos 0) (pos 7) (lit< tt) (lit< tt) (column zs 1) (and-left o xy e1)))
+      (coordinate-uncut (column zs 2) (and-left (c 2) (c 3) f)))
+      (coordinate-uncut (column zs 3) (and-right (c 2) (c 3) f)))
+      (coordinate-uncut (column zs 4) (and-left (c 4) (c 5) b2)))
+      (coordinate-uncut (column zs 5) (and-right (c 4) (c 5) b2)))
+      (coordinate-uncut (column zs 6) (and-right (c 4 && c 5) (c 6) b3)))
+      (coordinate-uncut (column zs 7) (and-right (c 4 && c 5 && c 6) (c 7) b)))
+      (uncut (pos 0) (pos 1000) (lit< tt) (lit< tt) (column zs 8) (and-right (o && xy && box) slop e3)))
+      (uncut (negℤ (pos 2147483648)) (pos 2147483647) (lit< tt) (lit< tt) (column zs 9) (and-right (o && xy && box && slop) level e4)))
+      (uncut (pos 0) (pos 7) (lit< tt) (lit< tt) (column zs 10) (and-right (o && xy && box && slop && level) flags e)))
 
 place-blind : (before : List (List ℤ)) → length before ≤ 1000 → Blind placeRule before
 unfolding placeInRange placeOf parentEarlier
@@ -157,14 +157,14 @@ place-blind before h =
       ranged = λ zs.
           both _ _ _ _
           (both _ _ _ _
-            (both _ _ _ _
-              (both _ _ _ _
-                (both _ _ _ _ (alike (pos 0) (pos 7) (lit< tt) (lit< tt) zs 1)
-                  (both _ _ _ _ (coordinate-alike zs 2) (coordinate-alike zs 3)))
-                (both _ _ _ _ (both _ _ _ _ (both _ _ _ _ (coordinate-alike zs 4) (coordinate-alike zs 5)) (coordinate-alike zs 6))
-                  (coordinate-alike zs 7)))
-              (alike (pos 0) (pos 1000) (lit< tt) (lit< tt) zs 8))
-            (alike (negℤ (pos 2147483648)) (pos 2147483647) (lit< tt) (lit< tt) zs 9))
+          (both _ _ _ _
+          (both _ _ _ _
+          (both _ _ _ _ (alike (pos 0) (pos 7) (lit< tt) (lit< tt) zs 1)
+          (both _ _ _ _ (coordinate-alike zs 2) (coordinate-alike zs 3)))
+          (both _ _ _ _ (both _ _ _ _ (both _ _ _ _ (coordinate-alike zs 4) (coordinate-alike zs 5)) (coordinate-alike zs 6))
+          (coordinate-alike zs 7)))
+          (alike (pos 0) (pos 1000) (lit< tt) (lit< tt) zs 8))
+          (alike (negℤ (pos 2147483648)) (pos 2147483647) (lit< tt) (lit< tt) zs 9))
           (alike (pos 0) (pos 7) (lit< tt) (lit< tt) zs 10);
       fitted = λ zs. alike (pos 0) (pos (length before)) (lit< tt) m zs 0;
       uncut = λ zs l r f. place-uncut zs (length before) h l r f;
@@ -181,9 +181,9 @@ tap-blind before =
           let e : c zs 0 && c zs 1 ≡ true = and-left (c zs 0 && c zs 1) (flagByte (column zs 2)) r in
           row-uncut zs 3 l
           (more zs 2
-            (more zs 1 (more zs 0 (none zs) (coordinate-uncut (column zs 0) (and-left (c zs 0) (c zs 1) e)))
-              (coordinate-uncut (column zs 1) (and-right (c zs 0) (c zs 1) e)))
-            (uncut (pos 0) (pos 7) (lit< tt) (lit< tt) (column zs 2) (and-right (c zs 0 && c zs 1) (flagByte (column zs 2)) r)));
+          (more zs 1 (more zs 0 (none zs) (coordinate-uncut (column zs 0) (and-left (c zs 0) (c zs 1) e)))
+          (coordinate-uncut (column zs 1) (and-right (c zs 0) (c zs 1) e)))
+          (uncut (pos 0) (pos 7) (lit< tt) (lit< tt) (column zs 2) (and-right (c zs 0 && c zs 1) (flagByte (column zs 2)) r)));
     }
 
 -- a place within its bounds is not cut off, and one beyond them does not fit
@@ -215,19 +215,19 @@ clip-blind places before h =
           let a2 : c zs 1 && c zs 2 ≡ true = and-left (c zs 1 && c zs 2) (c zs 3) a3 in
           row-uncut zs 6 l
           (more zs 5
-            (more zs 4
-              (more zs 3
-                (more zs 2
-                  (more zs 1
-                    (more zs 0 (none zs)
-                      (uncut (pos 1) (pos places) (lit< tt) m (column zs 0)
-                        (and-left (within (pos 1) (pos places) (column zs 0)) (not (clippedBefore before (column zs 0))) f)))
-                    (coordinate-uncut (column zs 1) (and-left (c zs 1) (c zs 2) a2)))
-                  (coordinate-uncut (column zs 2) (and-right (c zs 1) (c zs 2) a2)))
-                (coordinate-uncut (column zs 3) (and-right (c zs 1 && c zs 2) (c zs 3) a3)))
-              (coordinate-uncut (column zs 4) (and-right (c zs 1 && c zs 2 && c zs 3) (c zs 4) a)))
-            (uncut (pos 0) (pos 1000000) (lit< tt) (lit< tt) (column zs 5)
-              (and-right (c zs 1 && c zs 2 && c zs 3 && c zs 4) (within (pos 0) (pos 1000000) (column zs 5)) r)));
+          (more zs 4
+          (more zs 3
+          (more zs 2
+          (more zs 1
+          (more zs 0 (none zs)
+          (uncut (pos 1) (pos places) (lit< tt) m (column zs 0)
+          (and-left (within (pos 1) (pos places) (column zs 0)) (not (clippedBefore before (column zs 0))) f)))
+          (coordinate-uncut (column zs 1) (and-left (c zs 1) (c zs 2) a2)))
+          (coordinate-uncut (column zs 2) (and-right (c zs 1) (c zs 2) a2)))
+          (coordinate-uncut (column zs 3) (and-right (c zs 1 && c zs 2) (c zs 3) a3)))
+          (coordinate-uncut (column zs 4) (and-right (c zs 1 && c zs 2 && c zs 3) (c zs 4) a)))
+          (uncut (pos 0) (pos 1000000) (lit< tt) (lit< tt) (column zs 5)
+          (and-right (c zs 1 && c zs 2 && c zs 3 && c zs 4) (within (pos 0) (pos 1000000) (column zs 5)) r)));
     }
 
 pub blind : (k : Kind) (before : List (List ℤ)) → boundOf k ≤ 1000 → length before ≤ 1000 → Blind (ruleOf k) before

@@ -65,7 +65,6 @@ module _ (k : Kind) (n line from : ℕ) (s : List ℕ) (table₀ table : List �
     told' : toldLine (ruleOf k .width) s f ≡ firstFields (ruleOf k .width) (drop at s)
     told' = rw q at told
 
-
     B : Blind (ruleOf k) (rowsOf (ruleOf k .width) i table)
     B = let l : length (rowsOf (ruleOf k .width) i table) ≡ i = rows-length (ruleOf k .width) i table in
         blind k (rowsOf (ruleOf k .width) i table) bound (omega arith)
@@ -100,7 +99,7 @@ module _ (k : Kind) (n line from : ℕ) (s : List ℕ) (table₀ table : List �
         pub turn-23 : not t ≡ true → stopped 23 (line + i) ≡ section (ruleOf k) n [] line (drop from s)
         turn-23 y =
             sym (stop-23 (ruleOf k) (rowsOf (ruleOf k .width) i table) B (n - (i + 1)) (line + i) (drop at s) (take (ruleOf k .width) (f .row)) (drop (f .next) s) numbers-read (ranged ∙ not-false r x)
-              (fitted ∙ not-true t y))
+            (fitted ∙ not-true t y))
             ∙ here
 
         pub turn : (table' : List ℤ) → not t ≡ false → length (f .row) ≡ 11 → table' ≡ paste table (i * w) (f .row) w → Inv k n line from s table₀ table' (f .next) (i + 1)
@@ -115,9 +114,9 @@ module _ (k : Kind) (n line from : ℕ) (s : List ℕ) (table₀ table : List �
               long = ap length p' ∙ length-paste table (i * (ruleOf k .width)) (f .row) (ruleOf k .width) b c ∙ I .long;
               rest =
                   ap (λ u. section (ruleOf k) (n - (i + 1)) u (line + (i + 1)) (drop (f .next) s))
-                    (ap (rowsOf (ruleOf k .width) (i + 1)) p' ∙ rw add-one (stored (ruleOf k .width) i table (f .row) b c))
+                  (ap (rowsOf (ruleOf k .width) (i + 1)) p' ∙ rw add-one (stored (ruleOf k .width) i table (f .row) b c))
                   ∙ ap (λ u. section (ruleOf k) (n - (i + 1)) (rowsOf (ruleOf k .width) i table ++ take (ruleOf k .width) (f .row) ∷ []) u (drop (f .next) s)) z
                   ∙ sym (pass (ruleOf k) (rowsOf (ruleOf k .width) i table) B (n - (i + 1)) (line + i) (drop at s) (take (ruleOf k .width) (f .row)) (drop (f .next) s) numbers-read (ranged ∙ not-false r x)
-                    (fitted ∙ not-false t y))
+                  (fitted ∙ not-false t y))
                   ∙ here;
             }

@@ -225,7 +225,14 @@ fn put_row(table: &mut [i64], at: usize, width: usize, row: &[i64; 11])
 }
 
 // n lines of one kind, the first of them the line `line`, from a position on; a table takes their numbers.
-fn read_section(s: &[u8], from: usize, kind: Kind, n: usize, line: usize, table: &mut [i64]) -> Lines
+fn read_section(
+    s: &[u8],
+    from: usize,
+    kind: Kind,
+    n: usize,
+    line: usize,
+    table: &mut [i64],
+) -> Lines
     requires { ⌜ (n ≤ 1000) × (line ≤ 3000) × (boundOf kind ≤ 1000) × (n * (ruleOf kind .width) ≤ length (now table)) ⌝ }
     ensures { λ r. ⌜ (toldLines (ruleOf kind .width) (now (table .exit)) (now (s .entry)) r ≡ spec.section (ruleOf kind) n [] line (drop from (now (s .entry)))) × (countOf r ≤ n) ⌝ }
 {
@@ -306,7 +313,14 @@ fn refused(why: Refusal, line: usize) -> Parsed
 }
 
 // The taps and the end, behind n places and m clips.
-fn from_taps(s: &[u8], at: usize, places: [i64; 2816], n: usize, clips: [i64; 1536], m: usize) -> Parsed
+fn from_taps(
+    s: &[u8],
+    at: usize,
+    places: [i64; 2816],
+    n: usize,
+    clips: [i64; 1536],
+    m: usize,
+) -> Parsed
     requires { ⌜ (n ≤ 256) × (m ≤ 256) ⌝ }
     ensures { λ r. ⌜ told r ≡ fromTaps (rowsOf 11 n places) (rowsOf 6 m clips) (drop at (now (s .entry))) ⌝ }
 {

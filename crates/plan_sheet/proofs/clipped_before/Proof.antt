@@ -75,7 +75,7 @@ loop-again : tie.Need-loop-again Inv-loop μ-loop
 loop-again c = (
   omega arith,
   rw (toZ-ofZ w64 (c .before .before .before .before .before .args .k) (c .before .before .before .before .before .fits .k))
-  (not-this (c .before .before .before .before .before .args .table .now) (c .before .before .before .before .before .args .n) (c .before .before .before .before .loop .i) (c .before .before .before .before .before .args .k) (c .before .same .result) (c .before .before .before .loop-test .taken) (same-here (c .before)) (c .if1 .left) ∙ inv-here (c .before .before .before .before)),
+      (not-this (c .before .before .before .before .before .args .table .now) (c .before .before .before .before .before .args .n) (c .before .before .before .before .loop .i) (c .before .before .before .before .before .args .k) (c .before .same .result) (c .before .before .before .loop-test .taken) (same-here (c .before)) (c .if1 .left) ∙ inv-here (c .before .before .before .before)),
 )
 
 -- src/lib.rt:176:1

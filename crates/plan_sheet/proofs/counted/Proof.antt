@@ -38,9 +38,10 @@ read-section-requires c κs = let s = c .before .before .before .before .before 
 
 -- src/lib.rt:272:1
 returns : tie.Need-returns
-returns c = let s = c .before .before .before .before .before in
-    (count-stops (ruleOf (s .args .kind)) (s .args .most) (s .args .line) (drop (s .args .at) (s .args .s .now)) (numberOf (c .before .why .given .0 .0)) (c .before .why .given .0 .1 .0) (rw (c .before .why .given .1) at (c .before .before .before .read-count .ensures .0)),
-    omega arith)
+returns c = let s = c .before .before .before .before .before in (
+  count-stops (ruleOf (s .args .kind)) (s .args .most) (s .args .line) (drop (s .args .at) (s .args .s .now)) (numberOf (c .before .why .given .0 .0)) (c .before .why .given .0 .1 .0) (rw (c .before .why .given .1) at (c .before .before .before .read-count .ensures .0)),
+  omega arith,
+)
 
 -- src/lib.rt:272:1
 same-length : tie.Need-same-length
@@ -51,9 +52,10 @@ returns-2 : tie.Need-returns-2
 returns-2 c = let s = c .before .before .before .before .before .before .before .before in
     let n = c .before .before .before .before .n .given .0 .0 in
     let next = c .before .before .before .before .n .given .0 .1 .0 in
-    let b : n ≤ s .args .most = rw (c .before .before .before .before .n .given .1) at (c .before .before .before .before .before .before .read-count .ensures .1) in
-    (c .before .read-section .ensures .0 ∙ count-goes (ruleOf (s .args .kind)) (s .args .most) (s .args .line) (drop (s .args .at) (s .args .s .now)) (drop next (s .args .s .now)) n (rw (c .before .before .before .before .n .given .1) at (c .before .before .before .before .before .before .read-count .ensures .0)),
-    omega (arith, c .before .read-section .ensures .1))
+    let b : n ≤ s .args .most = rw (c .before .before .before .before .n .given .1) at (c .before .before .before .before .before .before .read-count .ensures .1) in (
+      c .before .read-section .ensures .0 ∙ count-goes (ruleOf (s .args .kind)) (s .args .most) (s .args .line) (drop (s .args .at) (s .args .s .now)) (drop next (s .args .s .now)) n (rw (c .before .before .before .before .n .given .1) at (c .before .before .before .before .before .before .read-count .ensures .0)),
+      omega (arith, c .before .read-section .ensures .1),
+    )
 
 pub counted-spec : {M : Type 1} → statement M
 counted-spec =

@@ -52,7 +52,7 @@ returns : tie.Need-returns
 returns c = let a = c .before .before .before .before .before .before .before .before .args in
     c .refused .ensures
     ∙ clips-stop (rowsOf 11 (a .n) (a .places)) (a .n) (rows-length 11 (a .n) (a .places)) (drop (a .at) (a .s .now))
-      (numberOf (c .before .before .why .given .0 .0)) (c .before .before .why .given .0 .1 .0) (rw (c .before .before .why .given .1) at (c .before .before .before .before .before .counted .ensures .0))
+    (numberOf (c .before .before .why .given .0 .0)) (c .before .before .why .given .0 .1 .0) (rw (c .before .before .why .given .1) at (c .before .before .before .before .before .counted .ensures .0))
 
 -- src/lib.rt:334:1
 returns-2 : tie.Need-returns-2
@@ -61,7 +61,7 @@ returns-2 c = let a = c .before .before .before .before .before .before .before 
     let next = c .before .before .m .given .0 .1 .0 in
     c .from-taps .ensures
     ∙ clips-go (rowsOf 11 (a .n) (a .places)) (a .n) (rows-length 11 (a .n) (a .places)) (drop (a .at) (a .s .now))
-      (rowsOf 6 m (c .before .before .before .before .before .counted .last .1 .1 .1 .1 .1 .0)) (drop next (a .s .now)) (rw (c .before .before .m .given .1) at (c .before .before .before .before .before .counted .ensures .0))
+    (rowsOf 6 m (c .before .before .before .before .before .counted .last .1 .1 .1 .1 .1 .0)) (drop next (a .s .now)) (rw (c .before .before .m .given .1) at (c .before .before .before .before .before .counted .ensures .0))
 
 pub from-clips-spec : {M : Type 1} → statement M
 from-clips-spec =

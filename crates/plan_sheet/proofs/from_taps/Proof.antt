@@ -67,14 +67,14 @@ returns c = let a = c .before .before .before .before .before .before .before .b
     c .refused2 .ensures
     ∙ before-end (4 + (a .n + a .m) + k) _ (a .s .now) next (c .before .if1 .taken)
     ∙ taps-go (rowsOf 11 (a .n) (a .places)) (rowsOf 6 (a .m) (a .clips)) (a .n) (a .m) (rows-length 11 (a .n) (a .places)) (rows-length 6 (a .m) (a .clips)) (drop (a .at) (a .s .now))
-      (rowsOf 3 k (c .before .before .before .before .before .before .counted .last .1 .1 .1 .1 .1 .0)) k (drop next (a .s .now)) (rows-length 3 k (c .before .before .before .before .before .before .counted .last .1 .1 .1 .1 .1 .0)) e
+    (rowsOf 3 k (c .before .before .before .before .before .before .counted .last .1 .1 .1 .1 .1 .0)) k (drop next (a .s .now)) (rows-length 3 k (c .before .before .before .before .before .before .counted .last .1 .1 .1 .1 .1 .0)) e
 
 -- src/lib.rt:309:1
 returns-2 : tie.Need-returns-2
 returns-2 c = let a = c .before .before .before .before .before .before .before .before .args in
     c .refused .ensures
     ∙ taps-stop (rowsOf 11 (a .n) (a .places)) (rowsOf 6 (a .m) (a .clips)) (a .n) (a .m) (rows-length 11 (a .n) (a .places)) (rows-length 6 (a .m) (a .clips)) (drop (a .at) (a .s .now))
-      (numberOf (c .before .before .why .given .0 .0)) (c .before .before .why .given .0 .1 .0) (rw (c .before .before .why .given .1) at (c .before .before .before .before .before .counted .ensures .0))
+    (numberOf (c .before .before .why .given .0 .0)) (c .before .before .why .given .0 .1 .0) (rw (c .before .before .why .given .1) at (c .before .before .before .before .before .counted .ensures .0))
 
 -- src/lib.rt:309:1
 returns-3 : tie.Need-returns-3
@@ -83,7 +83,7 @@ returns-3 c = let a = c .before .before .before .before .before .before .before 
     let next = c .before .before .k .given .0 .1 .0 in
     at-end (4 + (a .n + a .m) + k) _ (a .s .now) next (c .if1 .left)
     ∙ taps-go (rowsOf 11 (a .n) (a .places)) (rowsOf 6 (a .m) (a .clips)) (a .n) (a .m) (rows-length 11 (a .n) (a .places)) (rows-length 6 (a .m) (a .clips)) (drop (a .at) (a .s .now))
-      (rowsOf 3 k (c .before .before .before .before .before .counted .last .1 .1 .1 .1 .1 .0)) k (drop next (a .s .now)) (rows-length 3 k (c .before .before .before .before .before .counted .last .1 .1 .1 .1 .1 .0)) (rw (c .before .before .k .given .1) at (c .before .before .before .before .before .counted .ensures .0))
+    (rowsOf 3 k (c .before .before .before .before .before .counted .last .1 .1 .1 .1 .1 .0)) k (drop next (a .s .now)) (rows-length 3 k (c .before .before .before .before .before .counted .last .1 .1 .1 .1 .1 .0)) (rw (c .before .before .k .given .1) at (c .before .before .before .before .before .counted .ensures .0))
 
 pub from-taps-spec : {M : Type 1} → statement M
 from-taps-spec =

@@ -1,5 +1,4 @@
-use Rattle.plan_sheet.proofs.Whole.{cell, cell-0}
-use Rattle.plan_sheet.specs.Sheet.{placeOf}
+use Rattle.plan_sheet.proofs.Whole.{place-made}
 use mathlib.Core.Path.{refl}
 use Prim.Native.Nat.{_*_}
 use lib.ListN.{getD}
@@ -149,7 +148,6 @@ element-copy-out-t57 c = search needs
 
 -- src/lib.rt:363:1
 returns : tie.Need-returns
-unfolding placeOf
 returns c = let t = c .before .before .before .before .before .before .before .before .before .before .before .args .places .now in
     let i = c .before .before .before .before .before .before .before .before .before .before .before .args .i in
     let p = i * 11 in
@@ -164,7 +162,7 @@ returns c = let t = c .before .before .before .before .before .before .before .b
     let f8 : SFits w64 (getD t (p + 8) (pos 0)) = search needs in
     let f9 : SFits w64 (getD t (p + 9) (pos 0)) = search needs in
     let f10 : SFits w64 (getD t (p + 10) (pos 0)) = search needs in
-    rw (toZ-ofZ w64 (getD t p (pos 0)) f0, toZ-ofZ w64 (getD t (p + 1) (pos 0)) f1, toZ-ofZ w64 (getD t (p + 2) (pos 0)) f2, toZ-ofZ w64 (getD t (p + 3) (pos 0)) f3, toZ-ofZ w64 (getD t (p + 4) (pos 0)) f4, toZ-ofZ w64 (getD t (p + 5) (pos 0)) f5, toZ-ofZ w64 (getD t (p + 6) (pos 0)) f6, toZ-ofZ w64 (getD t (p + 7) (pos 0)) f7, toZ-ofZ w64 (getD t (p + 8) (pos 0)) f8, toZ-ofZ w64 (getD t (p + 9) (pos 0)) f9, toZ-ofZ w64 (getD t (p + 10) (pos 0)) f10, cell-0 11 i t refl, cell 11 i 1 t refl, cell 11 i 2 t refl, cell 11 i 3 t refl, cell 11 i 4 t refl, cell 11 i 5 t refl, cell 11 i 6 t refl, cell 11 i 7 t refl, cell 11 i 8 t refl, cell 11 i 9 t refl, cell 11 i 10 t refl)
+    place-made i t _ _ _ _ _ _ _ _ _ _ _ (toZ-ofZ w64 (getD t p (pos 0)) f0) (toZ-ofZ w64 (getD t (p + 1) (pos 0)) f1) (toZ-ofZ w64 (getD t (p + 2) (pos 0)) f2) (toZ-ofZ w64 (getD t (p + 3) (pos 0)) f3) (toZ-ofZ w64 (getD t (p + 4) (pos 0)) f4) (toZ-ofZ w64 (getD t (p + 5) (pos 0)) f5) (toZ-ofZ w64 (getD t (p + 6) (pos 0)) f6) (toZ-ofZ w64 (getD t (p + 7) (pos 0)) f7) (toZ-ofZ w64 (getD t (p + 8) (pos 0)) f8) (toZ-ofZ w64 (getD t (p + 9) (pos 0)) f9) (toZ-ofZ w64 (getD t (p + 10) (pos 0)) f10)
 
 pub place-at-spec : {M : Type 1} → statement M
 place-at-spec =

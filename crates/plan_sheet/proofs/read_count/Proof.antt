@@ -29,9 +29,10 @@ count-in-range-requires c κs = search needs
 
 -- src/lib.rt:265:9
 returns-2 : tie.Need-returns-2
-returns-2 c = let s = c .before .before .before .before .before .before .before .before in
-    (count-22 (s .args .most) (s .args .line) (s .args .at) (s .args .s .now) (s .pre) (c .before .before .before .before .before .before .fields-at .result) (c .before .before .before .before .before .before .fields-at .ensures) (c .before .before .before .before .if1 .left) (c .before .count-in-range .result) (c .before .count-in-range .ensures) (c .if2 .taken),
-    omega arith)
+returns-2 c = let s = c .before .before .before .before .before .before .before .before in (
+  count-22 (s .args .most) (s .args .line) (s .args .at) (s .args .s .now) (s .pre) (c .before .before .before .before .before .before .fields-at .result) (c .before .before .before .before .before .before .fields-at .ensures) (c .before .before .before .before .if1 .left) (c .before .count-in-range .result) (c .before .count-in-range .ensures) (c .if2 .taken),
+  omega arith,
+)
 
 -- src/lib.rt:267:13
 array-copy-out-z : tie.Need-array-copy-out-z
@@ -43,7 +44,7 @@ cast-t16 c = let s = c .before .before .before .before .before .before .before .
     let z = getD (c .before .before .before .before .before .before .before .fields-at .result .row) 0 (pos 0) in
     let g : SFits w64 z = search needs in
     rw (toZ-ofZ w64 z g) (castable (s .args .most) z
-      (in-bounds (s .args .most) (s .args .line) (s .args .at) (s .args .s .now) (s .pre) (c .before .before .before .before .before .before .before .fields-at .result) (c .before .before .before .before .before .before .before .fields-at .ensures) (c .before .before .before .before .before .if1 .left) (c .before .before .count-in-range .result) (c .before .before .count-in-range .ensures) (c .before .if2 .left)) (s .pre))
+    (in-bounds (s .args .most) (s .args .line) (s .args .at) (s .args .s .now) (s .pre) (c .before .before .before .before .before .before .before .fields-at .result) (c .before .before .before .before .before .before .before .fields-at .ensures) (c .before .before .before .before .before .if1 .left) (c .before .before .count-in-range .result) (c .before .before .count-in-range .ensures) (c .before .if2 .left)) (s .pre))
 
 -- src/lib.rt:255:1
 returns-3 : tie.Need-returns-3

@@ -45,10 +45,11 @@ same-length c = c .before .before .before .before .loop .inv .long
 
 -- src/lib.rt:238:13
 returns : tie.Need-returns Inv-loop μ-loop
-returns c = let a = c .before .before .before .before .before .before .before .args in
-    (turn-21 (a .kind) (a .n) (a .line) (a .from) (a .s .now) (a .table .now) (c .before .before .before .before .loop .table) (c .before .before .before .before .loop .at) (c .before .before .before .before .loop .i) (c .before .before .before .before .loop .inv)
+returns c = let a = c .before .before .before .before .before .before .before .args in (
+  turn-21 (a .kind) (a .n) (a .line) (a .from) (a .s .now) (a .table .now) (c .before .before .before .before .loop .table) (c .before .before .before .before .loop .at) (c .before .before .before .before .loop .i) (c .before .before .before .before .loop .inv)
       (c .before .before .before .before .before .width-of .result) (c .before .before .before .before .before .width-of .ensures .0) (c .before .before .before .before .before .before .before .pre .0) (c .before .before .before .before .before .before .before .pre .2) (c .before .before .before .before .before .before .before .pre .3) (c .before .before .before .loop-test .taken) (c .before .before .fields-at .result) (c .before .before .fields-at .ensures) (c .if1 .taken),
-    omega arith)
+  omega arith,
+)
 
 -- src/lib.rt:241:13
 in-range-requires : tie.Need-in-range-requires Inv-loop μ-loop
@@ -64,11 +65,12 @@ same-length-2 c = c .before .before .before .before .before .before .before .bef
 
 -- src/lib.rt:242:13
 returns-2 : tie.Need-returns-2 Inv-loop μ-loop
-returns-2 c = let a = c .before .before .before .before .before .before .before .before .before .before .before .args in
-    (turn-22 (a .kind) (a .n) (a .line) (a .from) (a .s .now) (a .table .now) (c .before .before .before .before .before .before .before .before .loop .table) (c .before .before .before .before .before .before .before .before .loop .at) (c .before .before .before .before .before .before .before .before .loop .i) (c .before .before .before .before .before .before .before .before .loop .inv)
+returns-2 c = let a = c .before .before .before .before .before .before .before .before .before .before .before .args in (
+  turn-22 (a .kind) (a .n) (a .line) (a .from) (a .s .now) (a .table .now) (c .before .before .before .before .before .before .before .before .loop .table) (c .before .before .before .before .before .before .before .before .loop .at) (c .before .before .before .before .before .before .before .before .loop .i) (c .before .before .before .before .before .before .before .before .loop .inv)
       (c .before .before .before .before .before .before .before .before .before .width-of .result) (c .before .before .before .before .before .before .before .before .before .width-of .ensures .0) (c .before .before .before .before .before .before .before .before .before .before .before .pre .0) (c .before .before .before .before .before .before .before .before .before .before .before .pre .2) (c .before .before .before .before .before .before .before .before .before .before .before .pre .3) (c .before .before .before .before .before .before .before .loop-test .taken) (c .before .before .before .before .before .before .fields-at .result) (c .before .before .before .before .before .before .fields-at .ensures) (c .before .before .before .before .if1 .left)
       (c .before .in-range .result) (c .before .in-range .ensures) (c .if2 .taken),
-    omega arith)
+  omega arith,
+)
 
 -- src/lib.rt:244:13
 fits-before-requires : tie.Need-fits-before-requires Inv-loop μ-loop
@@ -86,11 +88,12 @@ same-length-3 c = c .before .before .before .before .before .before .before .bef
 
 -- src/lib.rt:245:13
 returns-3 : tie.Need-returns-3 Inv-loop μ-loop
-returns-3 c = let a = c .before .before .before .before .before .before .before .before .before .before .before .before .before .before .before .args in
-    (turn-23 (a .kind) (a .n) (a .line) (a .from) (a .s .now) (a .table .now) (c .before .before .before .before .before .before .before .before .before .before .before .before .loop .table) (c .before .before .before .before .before .before .before .before .before .before .before .before .loop .at) (c .before .before .before .before .before .before .before .before .before .before .before .before .loop .i) (c .before .before .before .before .before .before .before .before .before .before .before .before .loop .inv)
+returns-3 c = let a = c .before .before .before .before .before .before .before .before .before .before .before .before .before .before .before .args in (
+  turn-23 (a .kind) (a .n) (a .line) (a .from) (a .s .now) (a .table .now) (c .before .before .before .before .before .before .before .before .before .before .before .before .loop .table) (c .before .before .before .before .before .before .before .before .before .before .before .before .loop .at) (c .before .before .before .before .before .before .before .before .before .before .before .before .loop .i) (c .before .before .before .before .before .before .before .before .before .before .before .before .loop .inv)
       (c .before .before .before .before .before .before .before .before .before .before .before .before .before .width-of .result) (c .before .before .before .before .before .before .before .before .before .before .before .before .before .width-of .ensures .0) (c .before .before .before .before .before .before .before .before .before .before .before .before .before .before .before .pre .0) (c .before .before .before .before .before .before .before .before .before .before .before .before .before .before .before .pre .2) (c .before .before .before .before .before .before .before .before .before .before .before .before .before .before .before .pre .3) (c .before .before .before .before .before .before .before .before .before .before .before .loop-test .taken) (c .before .before .before .before .before .before .before .before .before .before .fields-at .result) (c .before .before .before .before .before .before .before .before .before .before .fields-at .ensures) (c .before .before .before .before .before .before .before .before .if1 .left)
       (c .before .before .before .before .before .in-range .result) (c .before .before .before .before .before .in-range .ensures) (c .before .before .before .before .if2 .left) (c .before .fits-before .result) (c .before .fits-before .ensures) (c .if3 .taken),
-    omega arith)
+  omega arith,
+)
 
 -- src/lib.rt:247:24
 mul-put-row : tie.Need-mul-put-row Inv-loop μ-loop

@@ -55,7 +55,7 @@ returns-2 : tie.Need-returns-2
 returns-2 c = let a = c .before .before .before .before .before .before .before .before .before .before .args in
     c .refused2 .ensures
     ∙ places-stop (drop (a .at) (a .s .now)) (omega (arith, c .before .before .before .before .before .before .before .before .left .ensures, c .before .before .before .before .before .before .before .if1 .left))
-      (numberOf (c .before .before .why .given .0 .0)) (c .before .before .why .given .0 .1 .0) (rw (c .before .before .why .given .1) at (c .before .before .before .before .before .counted .ensures .0))
+    (numberOf (c .before .before .why .given .0 .0)) (c .before .before .why .given .0 .1 .0) (rw (c .before .before .why .given .1) at (c .before .before .before .before .before .counted .ensures .0))
 
 -- src/lib.rt:347:1
 returns-3 : tie.Need-returns-3
@@ -64,7 +64,7 @@ returns-3 c = let a = c .before .before .before .before .before .before .before 
     let next = c .before .before .n .given .0 .1 .0 in
     c .from-clips .ensures
     ∙ places-go (drop (a .at) (a .s .now)) (omega (arith, c .before .before .before .before .before .before .before .before .left .ensures, c .before .before .before .before .before .before .before .if1 .left))
-      (rowsOf 11 n (c .before .before .before .before .before .counted .last .1 .1 .1 .1 .1 .0)) (drop next (a .s .now)) (rw (c .before .before .n .given .1) at (c .before .before .before .before .before .counted .ensures .0))
+    (rowsOf 11 n (c .before .before .before .before .before .counted .last .1 .1 .1 .1 .1 .0)) (drop next (a .s .now)) (rw (c .before .before .n .given .1) at (c .before .before .before .before .before .counted .ensures .0))
 
 pub sheet-at-spec : {M : Type 1} → statement M
 sheet-at-spec =
