@@ -38,7 +38,7 @@ fn capped(n: u64) -> u64
     if n < 1_000_000_000_000_000 {
         return n;
     }
-    1_000_000_000_000_000
+    1_000_000_000_000_000 // 10^15
 }
 
 // Digits, none or more.
@@ -49,13 +49,13 @@ fn spelt(s: &[u8]) -> Digits
     let mut i = 0;
     while i < s.len() {
         let b = s[i];
-        if b < 48 {
+        if b < b'0' {
             return Digits { good: false, n: 0 };
         }
-        if b > 57 {
+        if b > b'9' {
             return Digits { good: false, n: 0 };
         }
-        let d = (b - 48) as u64;
+        let d = (b - b'0') as u64;
         n = capped(n * 10 + d);
         i += 1;
     }
@@ -69,7 +69,7 @@ fn positive(s: &[u8]) -> Digits
     if s.len() == 0 {
         return Digits { good: false, n: 0 };
     }
-    if s[0] == 48 {
+    if s[0] == b'0' {
         return Digits { good: false, n: 0 };
     }
     spelt(s)
@@ -97,7 +97,7 @@ fn number_of(s: &[u8]) -> Word
     if s.len() == 0 {
         return Word { good: false, z: 0 };
     }
-    if s[0] == 45 {
+    if s[0] == b'-' {
         let d = positive(&s[1..]);
         let z = minus(d.n);
         return Word { good: d.good, z };
@@ -134,7 +134,7 @@ fn row_of(line: &[u8], width: usize) -> Row
         if at > line.len() {
             return no_row();
         }
-        let end = bytes::scan::find(line, at, line.len(), 32);
+        let end = bytes::scan::find(line, at, line.len(), b' ');
         let w = number_of(&line[at..end]);
         if !w.good {
             return no_row();
@@ -168,7 +168,7 @@ pub fn fields_at(s: &[u8], at: usize, width: usize) -> LineRow
     if at > s.len() {
         return no_line();
     }
-    let end = bytes::scan::find(s, at, s.len(), 10);
+    let end = bytes::scan::find(s, at, s.len(), b'\n');
     if end >= s.len() {
         return no_line();
     }
