@@ -3,8 +3,6 @@
 ghost use mathlib.Core.Path.{_≡_};
 ghost use Prim.Native.Nat.{_<_};
 ghost use lib.ListN.{getD};
-ghost use Rattle.tree_state.specs.Tree as tree;
-ghost use Rattle.tree_steps.specs.Setters as set;
 ghost use Rattle.tree_answers.specs.Answers as spec;
 use boxes::NodeId;
 use tree_answers::AnswerClip;
@@ -23,7 +21,7 @@ pub fn byte_at(a: &[u8; 256], i: usize) -> u8
 }
 
 pub fn local_bounds(t: Tree, id: NodeId) -> AnswerRect
-    ensures { λ r. ⌜ r ≡ spec.rectIf (set.ofNode t id) (tree.localAt t (id .0) .«local_bounds») ⌝ }
+    ensures { λ r. ⌜ r ≡ spec.localBoundsCall t id ⌝ }
 {
     match tree_nodes::of_node(t, id) {
         Verdict::Refused(r) => AnswerRect::Refused(r),
@@ -35,7 +33,7 @@ pub fn local_bounds(t: Tree, id: NodeId) -> AnswerRect
 }
 
 pub fn hit_slop(t: Tree, id: NodeId) -> AnswerInsets
-    ensures { λ r. ⌜ r ≡ spec.insetsIf (set.ofNode t id) (tree.localAt t (id .0) .«hit_slop») ⌝ }
+    ensures { λ r. ⌜ r ≡ spec.hitSlopCall t id ⌝ }
 {
     match tree_nodes::of_node(t, id) {
         Verdict::Refused(r) => AnswerInsets::Refused(r),
@@ -47,7 +45,7 @@ pub fn hit_slop(t: Tree, id: NodeId) -> AnswerInsets
 }
 
 pub fn local_transform(t: Tree, id: NodeId) -> AnswerTransform
-    ensures { λ r. ⌜ r ≡ spec.transformIf (set.ofNode t id) (tree.localAt t (id .0) .«local_transform») ⌝ }
+    ensures { λ r. ⌜ r ≡ spec.localTransformCall t id ⌝ }
 {
     match tree_nodes::of_node(t, id) {
         Verdict::Refused(r) => AnswerTransform::Refused(r),
@@ -59,7 +57,7 @@ pub fn local_transform(t: Tree, id: NodeId) -> AnswerTransform
 }
 
 pub fn local_clip(t: Tree, id: NodeId) -> AnswerClip
-    ensures { λ r. ⌜ r ≡ spec.clipIf (set.ofNode t id) (tree.localAt t (id .0) .«local_clip») ⌝ }
+    ensures { λ r. ⌜ r ≡ spec.localClipCall t id ⌝ }
 {
     match tree_nodes::of_node(t, id) {
         Verdict::Refused(r) => AnswerClip::Refused(r),

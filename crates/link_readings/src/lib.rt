@@ -8,7 +8,6 @@ ghost use Rattle.tree_state.specs.Sound.{soundTree};
 ghost use Rattle.tree_state.specs.Tree as tree;
 ghost use Rattle.tree_sound.specs.Parts.{Low};
 ghost use Rattle.tree_steps.specs.Requests as request;
-ghost use Rattle.tree_steps.specs.Setters as set;
 ghost use Rattle.tree_steps.specs.Readings as reading;
 ghost use Rattle.tree_answers.specs.Answers as spec;
 use boxes::NodeId;
@@ -83,7 +82,7 @@ fn parent(t: Tree, x: u32) -> AnswerNode
 }
 
 pub fn next_depth_first(t: Tree, id: NodeId) -> AnswerNode
-    ensures { λ r. ⌜ r ≡ spec.nodeIf (set.ofNode t id) (reading.nextOf t (id .0)) ⌝ }
+    ensures { λ r. ⌜ r ≡ spec.nextCall t id ⌝ }
 {
     match tree_nodes::of_node(t, id) {
         Verdict::Refused(r) => AnswerNode::Refused(r),
@@ -92,7 +91,7 @@ pub fn next_depth_first(t: Tree, id: NodeId) -> AnswerNode
 }
 
 pub fn prev_depth_first(t: Tree, id: NodeId) -> AnswerNode
-    ensures { λ r. ⌜ r ≡ spec.nodeIf (set.ofNode t id) (reading.prevOf t (id .0)) ⌝ }
+    ensures { λ r. ⌜ r ≡ spec.prevCall t id ⌝ }
 {
     match tree_nodes::of_node(t, id) {
         Verdict::Refused(r) => AnswerNode::Refused(r),
@@ -101,7 +100,7 @@ pub fn prev_depth_first(t: Tree, id: NodeId) -> AnswerNode
 }
 
 pub fn parent_of(t: Tree, id: NodeId) -> AnswerNode
-    ensures { λ r. ⌜ r ≡ spec.nodeIf (set.ofNode t id) (reading.parentOf t (id .0)) ⌝ }
+    ensures { λ r. ⌜ r ≡ spec.parentCall t id ⌝ }
 {
     match tree_nodes::of_node(t, id) {
         Verdict::Refused(r) => AnswerNode::Refused(r),
@@ -139,8 +138,8 @@ fn put_children(t: Tree, x: u32, room: &mut [u32]) -> usize
 
 // The ids of the children, in order, in front of the room.
 pub fn children_of(t: Tree, id: NodeId, room: &mut [u32]) -> AnswerIds
-    ensures answer { λ r. ⌜ r ≡ spec.idsIf (reading.childrenVerdict t id (length (now (room .entry)))) (reading.childrenOf t (id .0)) ⌝ }
-    ensures rooms { λ _. ⌜ now (room .exit) ≡ spec.roomIf (reading.childrenVerdict t id (length (now (room .entry)))) (reading.childrenOf t (id .0)) (now (room .entry)) ⌝ }
+    ensures answer { λ r. ⌜ r ≡ spec.childrenCall t id (length (now (room .entry))) ⌝ }
+    ensures rooms { λ _. ⌜ now (room .exit) ≡ spec.childrenRoom t id (now (room .entry)) ⌝ }
 {
     let held = tree_nodes::of_node(t, id);
     let long = !(room.len() < 512);

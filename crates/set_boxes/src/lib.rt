@@ -1,7 +1,6 @@
 // The setters of a node's own boxes: tree.rs's `set_local_bounds` and `set_hit_slop`, by value (see tree_setters).
 ghost use mathlib.Core.Path.{_≡_};
 ghost use Rattle.tree_steps.specs.Setters as spec;
-ghost use Rattle.tree_steps.specs.Setters.{after};
 use boxes::NodeId;
 use geometry::insets::Insets;
 use geometry::rect::Rect;
@@ -12,7 +11,7 @@ use tree_state::Tree;
 use tree_state::Verdict;
 
 pub fn set_local_bounds(mut t: Tree, id: NodeId, bounds: Rect) -> After
-    ensures { λ r. ⌜ r ≡ after (spec.boundsVerdict t id bounds) (spec.setBounds t (id .0) bounds) t ⌝ }
+    ensures { λ r. ⌜ r ≡ spec.boundsCall t id bounds ⌝ }
 {
     let node = tree_nodes::of_node(t, id);
     let v = tree_state::check(node, bounds.is_finite(), Refusal::NotFinite);
@@ -30,7 +29,7 @@ pub fn set_local_bounds(mut t: Tree, id: NodeId, bounds: Rect) -> After
 }
 
 pub fn set_hit_slop(mut t: Tree, id: NodeId, slop: Insets) -> After
-    ensures { λ r. ⌜ r ≡ after (spec.slopVerdict t id slop) (spec.setSlop t (id .0) slop) t ⌝ }
+    ensures { λ r. ⌜ r ≡ spec.slopCall t id slop ⌝ }
 {
     let node = tree_nodes::of_node(t, id);
     let v = tree_state::check(node, slop.is_finite(), Refusal::NotFinite);

@@ -1,7 +1,6 @@
 // The setters that call for no commit: tree.rs's `set_z_index` and `set_flags`, by value (see tree_setters).
 ghost use mathlib.Core.Path.{_≡_};
 ghost use Rattle.tree_steps.specs.Setters as spec;
-ghost use Rattle.tree_steps.specs.Setters.{after};
 use box_types::NodeFlags;
 use boxes::NodeId;
 use setter_steps::put_byte;
@@ -12,7 +11,7 @@ use tree_state::Tree;
 use tree_state::Verdict;
 
 pub fn set_z_index(mut t: Tree, id: NodeId, z: i32) -> After
-    ensures { λ r. ⌜ r ≡ after (spec.ofNode t id) (spec.setLevel t (id .0) z) t ⌝ }
+    ensures { λ r. ⌜ r ≡ spec.levelCall t id z ⌝ }
 {
     let v = tree_nodes::of_node(t, id);
     let Verdict::Accepted = v else {
@@ -24,7 +23,7 @@ pub fn set_z_index(mut t: Tree, id: NodeId, z: i32) -> After
 }
 
 pub fn set_flags(mut t: Tree, id: NodeId, flags: NodeFlags) -> After
-    ensures { λ r. ⌜ r ≡ after (spec.flagsVerdict t id flags) (spec.setFlags t (id .0) flags) t ⌝ }
+    ensures { λ r. ⌜ r ≡ spec.flagsCall t id flags ⌝ }
 {
     let node = tree_nodes::of_node(t, id);
     let v = tree_state::check(node, flags.is_known(), Refusal::UnknownFlags);

@@ -1,7 +1,6 @@
 // The setters of where a node lies and what it clips: tree.rs's `set_local_transform` and `set_local_clip`, by value (see tree_setters).
 ghost use mathlib.Core.Path.{_≡_};
 ghost use Rattle.tree_steps.specs.Setters as spec;
-ghost use Rattle.tree_steps.specs.Setters.{after};
 use boxes::NodeId;
 use clips::clip::Clip;
 use setter_steps::mark;
@@ -14,7 +13,7 @@ use tree_state::Tree;
 use tree_state::Verdict;
 
 pub fn set_local_transform(mut t: Tree, id: NodeId, tf: Affine) -> After
-    ensures { λ r. ⌜ r ≡ after (spec.transformVerdict t id tf) (spec.setTransform t (id .0) tf) t ⌝ }
+    ensures { λ r. ⌜ r ≡ spec.transformCall t id tf ⌝ }
 {
     let node = tree_nodes::of_node(t, id);
     let v = tree_state::check(node, tf.is_finite(), Refusal::NotFinite);
@@ -34,7 +33,7 @@ pub fn set_local_transform(mut t: Tree, id: NodeId, tf: Affine) -> After
 
 // The clip is put through the constructor before it is compared.
 pub fn set_local_clip(mut t: Tree, id: NodeId, clip: Clip) -> After
-    ensures { λ r. ⌜ r ≡ after (spec.clipVerdict t id clip) (spec.setClip t (id .0) clip) t ⌝ }
+    ensures { λ r. ⌜ r ≡ spec.clipCall t id clip ⌝ }
 {
     let node = tree_nodes::of_node(t, id);
     let v = tree_state::check(node, clip.is_finite(), Refusal::NotFinite);

@@ -14,7 +14,10 @@ use Rattle.box_types.specs.declared.OptionNodeId.{OptionNodeId}
 use Rattle.box_types.specs.declared.OptionNodeId.the-variants as node
 use Rattle.tree_state.specs.declared.Verdict.{Verdict}
 use Rattle.tree_state.specs.declared.Verdict.the-variants as is
-use Rattle.tree_state.specs.Tree.{numberOf}
+use Rattle.tree_state.specs.declared.Tree.{Tree}
+use Rattle.tree_state.specs.Tree.{numberOf, live, localAt, needsCommit, storedPlace, storedBounds, storedHitBounds}
+use Rattle.tree_steps.specs.Setters.{held, ofNode}
+use Rattle.tree_steps.specs.Readings.{parentOf, childrenOf, nextOf, prevOf, worldVerdict, childrenVerdict}
 use Rattle.tree_steps.specs.Requests.{idsInFront}
 use Rattle.tree_answers.specs.declared.AnswerBool.{AnswerBool}
 use Rattle.tree_answers.specs.declared.AnswerBool.the-variants as bool
@@ -87,6 +90,56 @@ idsIf (is.Refused r) l = ids.Refused r
 unfoldable pub roomIf : Verdict → List NodeId → List ℕ → List ℕ
 roomIf is.Accepted l room = idsInFront l room
 roomIf (is.Refused r) l room = room
+
+-- ---- the calls
+
+abbrev pub needsCommitCall : Tree → AnswerBool
+needsCommitCall t = boolIf (held t) (needsCommit t)
+
+abbrev pub isAliveCall : Tree → NodeId → AnswerBool
+isAliveCall t i = boolIf (held t) (live t i)
+
+abbrev pub localTransformCall : Tree → NodeId → AnswerTransform
+localTransformCall t i = transformIf (ofNode t i) (localAt t (i .0) .«local_transform»)
+
+abbrev pub localClipCall : Tree → NodeId → AnswerClip
+localClipCall t i = clipIf (ofNode t i) (localAt t (i .0) .«local_clip»)
+
+abbrev pub localBoundsCall : Tree → NodeId → AnswerRect
+localBoundsCall t i = rectIf (ofNode t i) (localAt t (i .0) .«local_bounds»)
+
+abbrev pub hitSlopCall : Tree → NodeId → AnswerInsets
+hitSlopCall t i = insetsIf (ofNode t i) (localAt t (i .0) .«hit_slop»)
+
+abbrev pub zIndexCall : Tree → NodeId → AnswerLevel
+zIndexCall t i = levelIf (ofNode t i) (localAt t (i .0) .«z_index»)
+
+abbrev pub flagsCall : Tree → NodeId → AnswerFlags
+flagsCall t i = flagsIf (ofNode t i) (localAt t (i .0) .flags)
+
+abbrev pub parentCall : Tree → NodeId → AnswerNode
+parentCall t i = nodeIf (ofNode t i) (parentOf t (i .0))
+
+abbrev pub nextCall : Tree → NodeId → AnswerNode
+nextCall t i = nodeIf (ofNode t i) (nextOf t (i .0))
+
+abbrev pub prevCall : Tree → NodeId → AnswerNode
+prevCall t i = nodeIf (ofNode t i) (prevOf t (i .0))
+
+abbrev pub childrenCall : Tree → NodeId → ℕ → AnswerIds
+childrenCall t i len = idsIf (childrenVerdict t i len) (childrenOf t (i .0))
+
+abbrev pub childrenRoom : Tree → NodeId → List ℕ → List ℕ
+childrenRoom t i room = roomIf (childrenVerdict t i (length room)) (childrenOf t (i .0)) room
+
+abbrev pub worldTransformCall : Tree → NodeId → AnswerTransform
+worldTransformCall t i = transformIf (worldVerdict t i) (storedPlace t (i .0) .transform)
+
+abbrev pub worldBoundsCall : Tree → NodeId → AnswerRect
+worldBoundsCall t i = rectIf (worldVerdict t i) (storedBounds t (i .0))
+
+abbrev pub worldHitBoundsCall : Tree → NodeId → AnswerRect
+worldHitBoundsCall t i = rectIf (worldVerdict t i) (storedHitBounds t (i .0))
 
 -- ---- document 01's number, 0 where the call is accepted
 

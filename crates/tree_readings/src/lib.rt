@@ -4,8 +4,6 @@ ghost use mathlib.Core.Path.{_≡_};
 ghost use Prim.Native.Nat.{_<_};
 ghost use lib.IntN.{pos};
 ghost use lib.ListN.{getD};
-ghost use Rattle.tree_state.specs.Tree as tree;
-ghost use Rattle.tree_steps.specs.Setters as set;
 ghost use Rattle.tree_answers.specs.Answers as spec;
 use box_readings::byte_at;
 pub use box_readings::hit_slop;
@@ -23,7 +21,7 @@ use tree_state::Verdict;
 // ---- the tree
 
 pub fn needs_commit(t: Tree) -> AnswerBool
-    ensures { λ r. ⌜ r ≡ spec.boolIf (set.held t) (tree.needsCommit t) ⌝ }
+    ensures { λ r. ⌜ r ≡ spec.needsCommitCall t ⌝ }
 {
     match tree_nodes::held(t) {
         Verdict::Refused(r) => AnswerBool::Refused(r),
@@ -33,7 +31,7 @@ pub fn needs_commit(t: Tree) -> AnswerBool
 
 // A dead id is answered false and never refused.
 pub fn is_alive(t: Tree, id: NodeId) -> AnswerBool
-    ensures { λ r. ⌜ r ≡ spec.boolIf (set.held t) (tree.live t id) ⌝ }
+    ensures { λ r. ⌜ r ≡ spec.isAliveCall t id ⌝ }
 {
     match tree_nodes::held(t) {
         Verdict::Refused(r) => AnswerBool::Refused(r),
@@ -57,7 +55,7 @@ fn level_at(a: &[i32; 256], i: usize) -> i32
 }
 
 pub fn z_index(t: Tree, id: NodeId) -> AnswerLevel
-    ensures { λ r. ⌜ r ≡ spec.levelIf (set.ofNode t id) (tree.localAt t (id .0) .«z_index») ⌝ }
+    ensures { λ r. ⌜ r ≡ spec.zIndexCall t id ⌝ }
 {
     match tree_nodes::of_node(t, id) {
         Verdict::Refused(r) => AnswerLevel::Refused(r),
@@ -66,7 +64,7 @@ pub fn z_index(t: Tree, id: NodeId) -> AnswerLevel
 }
 
 pub fn flags(t: Tree, id: NodeId) -> AnswerFlags
-    ensures { λ r. ⌜ r ≡ spec.flagsIf (set.ofNode t id) (tree.localAt t (id .0) .flags) ⌝ }
+    ensures { λ r. ⌜ r ≡ spec.flagsCall t id ⌝ }
 {
     match tree_nodes::of_node(t, id) {
         Verdict::Refused(r) => AnswerFlags::Refused(r),

@@ -7,8 +7,6 @@ ghost use lib.ListN.{length, take, getD, set};
 ghost use lib.Seq.{sets};
 ghost use Rattle.geometry.specs.Rectangle.{hasArea};
 ghost use Rattle.index_entries.specs.Entries.{queueWith, lengthWith};
-ghost use Rattle.tree_state.specs.Tree.{placeOf};
-ghost use Rattle.tree_steps.specs.Setters.{after, ofNode};
 ghost use Rattle.tree_steps.specs.Structure as step;
 ghost use Rattle.tree_remove.specs.Remove as spec;
 use boxes::Key;
@@ -141,7 +139,7 @@ fn remove_nodes<'a>(
 }
 
 pub fn remove(mut t: Tree, id: NodeId) -> After
-    ensures { λ r. ⌜ r ≡ after (ofNode t id) (step.removeTree t (placeOf t (id .0))) t ⌝ }
+    ensures { λ r. ⌜ r ≡ step.removeCall t id ⌝ }
 {
     let v = tree_nodes::of_node(t, id);
     let Verdict::Accepted = v else {

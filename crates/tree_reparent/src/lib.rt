@@ -6,7 +6,6 @@ ghost use Prim.Native.Nat.{_<_, _≤_};
 ghost use lib.ListN.{take};
 ghost use Rattle.forest.specs.Table.{depthsFrom};
 ghost use Rattle.tree_state.specs.Tree.{placeOf};
-ghost use Rattle.tree_steps.specs.Setters.{after};
 ghost use Rattle.tree_steps.specs.Structure as step;
 ghost use Rattle.tree_reparent.specs.Below.{Outside};
 use box_types::OptionNodeId;
@@ -46,7 +45,7 @@ fn move_links(t: Tree, at: usize, parent: OptionNodeId) -> Links
 }
 
 pub fn reparent(mut t: Tree, id: NodeId, parent: OptionNodeId) -> After
-    ensures { λ r. ⌜ r ≡ after (step.reparentVerdict t id parent) (step.reparentTree t (id .0) parent) t ⌝ }
+    ensures { λ r. ⌜ r ≡ step.reparentCall t id parent ⌝ }
 {
     let node = tree_nodes::of_node(t, id);
     let v = tree_nodes::of_parent(t, node, parent);

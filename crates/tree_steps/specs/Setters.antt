@@ -132,3 +132,23 @@ slopVerdict t i s = ofValue t i (finiteInsets s)
 
 abbrev pub flagsVerdict : Tree → NodeId → NodeFlags → Verdict
 flagsVerdict t i f = checked (ofNode t i) (known f) no.UnknownFlags
+
+-- ---- the calls: what each answers, and the tree after it
+
+abbrev pub transformCall : Tree → NodeId → Affine → After
+transformCall t i a = after (transformVerdict t i a) (setTransform t (i .0) a) t
+
+abbrev pub clipCall : Tree → NodeId → Clip → After
+clipCall t i c = after (clipVerdict t i c) (setClip t (i .0) c) t
+
+abbrev pub boundsCall : Tree → NodeId → Rect → After
+boundsCall t i r = after (boundsVerdict t i r) (setBounds t (i .0) r) t
+
+abbrev pub slopCall : Tree → NodeId → Insets → After
+slopCall t i s = after (slopVerdict t i s) (setSlop t (i .0) s) t
+
+abbrev pub levelCall : Tree → NodeId → ℤ → After
+levelCall t i z = after (ofNode t i) (setLevel t (i .0) z) t
+
+abbrev pub flagsCall : Tree → NodeId → NodeFlags → After
+flagsCall t i f = after (flagsVerdict t i f) (setFlags t (i .0) f) t

@@ -26,7 +26,8 @@ use Rattle.tree_state.specs.declared.Tree.{Tree}
 use Rattle.tree_state.specs.declared.Refusal.the-variants as no
 use Rattle.tree_state.specs.declared.Verdict.{Verdict}
 use Rattle.tree_state.specs.Tree.{placeOf, generationAt, live, committedAt, keyAt, storedBounds, checked}
-use Rattle.tree_steps.specs.Setters.{held, ofNode, markBoth}
+use Rattle.tree_state.specs.declared.After.{After}
+use Rattle.tree_steps.specs.Setters.{held, ofNode, after, markBoth}
 
 -- ---- refusals
 
@@ -179,3 +180,11 @@ reparentTree t x parent =
       pending = t .pending;
       index = t .index;
     }
+
+-- ---- the calls: what each answers, and the tree after it
+
+abbrev pub removeCall : Tree → NodeId → After
+removeCall t i = after (ofNode t i) (removeTree t (placeOf t (i .0))) t
+
+abbrev pub reparentCall : Tree → NodeId → OptionNodeId → After
+reparentCall t i parent = after (reparentVerdict t i parent) (reparentTree t (i .0) parent) t

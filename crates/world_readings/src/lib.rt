@@ -1,6 +1,5 @@
 // The readings of world records (tree.rs), as the last commit stored them; refused while a commit is needed.
 ghost use mathlib.Core.Path.{_≡_};
-ghost use Rattle.tree_state.specs.Tree as tree;
 ghost use Rattle.tree_steps.specs.Readings as reading;
 ghost use Rattle.tree_answers.specs.Answers as spec;
 use boxes::NodeId;
@@ -23,7 +22,7 @@ fn of_world(t: Tree, id: NodeId) -> Verdict
 }
 
 pub fn world_transform(t: Tree, id: NodeId) -> AnswerTransform
-    ensures { λ r. ⌜ r ≡ spec.transformIf (reading.worldVerdict t id) (tree.storedPlace t (id .0) .transform) ⌝ }
+    ensures { λ r. ⌜ r ≡ spec.worldTransformCall t id ⌝ }
 {
     match of_world(t, id) {
         Verdict::Refused(r) => AnswerTransform::Refused(r),
@@ -35,7 +34,7 @@ pub fn world_transform(t: Tree, id: NodeId) -> AnswerTransform
 }
 
 pub fn world_bounds(t: Tree, id: NodeId) -> AnswerRect
-    ensures { λ r. ⌜ r ≡ spec.rectIf (reading.worldVerdict t id) (tree.storedBounds t (id .0)) ⌝ }
+    ensures { λ r. ⌜ r ≡ spec.worldBoundsCall t id ⌝ }
 {
     match of_world(t, id) {
         Verdict::Refused(r) => AnswerRect::Refused(r),
@@ -47,7 +46,7 @@ pub fn world_bounds(t: Tree, id: NodeId) -> AnswerRect
 }
 
 pub fn world_hit_bounds(t: Tree, id: NodeId) -> AnswerRect
-    ensures { λ r. ⌜ r ≡ spec.rectIf (reading.worldVerdict t id) (tree.storedHitBounds t (id .0)) ⌝ }
+    ensures { λ r. ⌜ r ≡ spec.worldHitBoundsCall t id ⌝ }
 {
     match of_world(t, id) {
         Verdict::Refused(r) => AnswerRect::Refused(r),
