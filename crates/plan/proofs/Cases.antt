@@ -38,37 +38,37 @@ use Rattle.plan.specs.Demand.{run, outcomes, answer, Answer}
 use Rattle.plan.proofs.Rows.{num, point, id, local, ten, turn, shifted, grown, root, child, settle, after, next, listing, needs, told, tapped, a, b, c}
 
 -- a whole local record, and shorter ways to write values
-pub rec : Rect → Insets → Affine → Clip → ℤ → ℕ → LocalNode
+unfoldable pub rec : Rect → Insets → Affine → Clip → ℤ → ℕ → LocalNode
 rec r s t c z f = record { «local_bounds» = r; «hit_slop» = s; «local_transform» = t; «local_clip» = c; «z_index» = z; flags = flags f }
 
-pub whole : ℕ → Rect
+unfoldable pub whole : ℕ → Rect
 whole n = rect fl.zero fl.zero (num n) (num n)
 
 -- 10 ^ n and 10 ^ -n, rounded
-pub big : ℕ → Float
+unfoldable pub big : ℕ → Float
 big n = round binary64 false (10 ^ n) 1
 
-pub small : ℕ → Float
+unfoldable pub small : ℕ → Float
 small n = round binary64 false 1 (10 ^ n)
 
-pub scaled : Float → Affine
+unfoldable pub scaled : Float → Affine
 scaled s = record { a = s; b = fl.zero; c = fl.zero; d = s; e = fl.zero; f = fl.zero }
 
-pub rounded5 : Clip
+unfoldable pub rounded5 : Clip
 rounded5 = is.Rounded fl.zero fl.zero (num 10) (num 10) (num 5) (num 5) (num 5) (num 5)
 
-pub node-with : Rect → Insets → Affine → Clip → ℤ → ℕ → Call
+unfoldable pub node-with : Rect → Insets → Affine → Clip → ℤ → ℕ → Call
 node-with r s t c z f = call.insert node.None (rec r s t c z f)
 
-pub roots-of : ℕ → List Call
+unfoldable pub roots-of : ℕ → List Call
 roots-of zero = []
 roots-of (suc n) = root ∷ roots-of n
 
-pub gone : ℕ → List Call
+unfoldable pub gone : ℕ → List Call
 gone zero = []
 gone (suc n) = gone n ++ (call.remove (id n 1) ∷ [])
 
-pub twice : ℕ → Plan
+unfoldable pub twice : ℕ → Plan
 twice n = after (roots-of n ++ (settle ∷ (gone n ++ (roots-of n ++ (settle ∷ [])))))
 
 -- slots, removals and moves

@@ -1,8 +1,8 @@
 -- A count line: refused, or the count; and the section that it counts. Assumes nothing.
 use mathlib.Core.Path.{_≡_, refl, sym, ap, _∙_}
 use mathlib.Core.Bool.{Bool, true, false, not}
-use mathlib.Core.List.{List, [], _∷_, _++_}
-use Prim.Native.Nat.{ℕ, zero, suc, _+_, _*_, _≤_, _<_}
+use mathlib.Core.List.{List, [], _∷_}
+use Prim.Native.Nat.{ℕ, suc, _+_, _≤_}
 use native.Mathlib.Omega.{arith}
 use borrow.Author.Tests.{not-true, not-false, leb-true}
 use lib.Dec.{T}
@@ -12,13 +12,9 @@ use lib.ListN.{length, getD, take, drop}
 use mir.Syntax.{w64}
 use mir.Val.{Fits}
 use Rattle.sheet_lines.specs.declared.LineRow.{LineRow}
-use Rattle.sheet_lines.specs.Saturated.{unfit, row, firstFields, toldLine}
-use Rattle.plan_sheet.specs.Sheet.{Rule, Section, stopped, ended, within, column, countRule, section, counted, thenSection}
-use Rattle.plan_sheet.specs.Told.{ruleOf, numberOf, toldLines, toldCount, countOf}
+use Rattle.sheet_lines.specs.Saturated.{row, firstFields, toldLine}
+use Rattle.plan_sheet.specs.Sheet.{Rule, stopped, ended, within, column, countRule, section, counted}
 use Rattle.plan_sheet.specs.declared.Kind.the-variants as kind
-use Rattle.plan_sheet.specs.declared.Refusal.{Refusal}
-use Rattle.plan_sheet.specs.declared.Lines.{Lines}
-use Rattle.plan_sheet.specs.declared.Lines.the-variants as lines
 use Rattle.plan_sheet.proofs.Ranges.{Blind, blind, and-left, and-right, inRange-row}
 use Rattle.plan_sheet.proofs.Steps.{stop-21, stop-22, pass}
 

@@ -2,15 +2,15 @@
 use mathlib.Core.Path.{_≡_, refl, sym, ap, _∙_}
 use mathlib.Core.Bool.{Bool, true, false, cond}
 use mathlib.Core.List.{List, [], _∷_, _++_, map}
-use Prim.Native.Nat.{ℕ, zero, suc}
+use Prim.Native.Nat.{ℕ, suc}
 use native.Mathlib.Omega.{arith}
 use borrow.Author.Tests.{eqb-true}
 use lib.Dec.{eqb}
 use lib.IntN.{ℤ}
 use lib.ListN.{length}
 use Rattle.sheet_lines.specs.Lines.{Numbers, malformed, numbers, numbersOf, wordsOf, ofWidth, fields, Cut, without, line, cut}
-use Rattle.sheet_lines.specs.Saturated.{saturated, saturatedNumbers, First, unfit, row, followed, firstOf, firstFields}
-use Rattle.plan_sheet.specs.Sheet.{Rule, Judged, bad, good, judgeNumbers, judge, Section, stopped, ended, onJudged, onLine, section}
+use Rattle.sheet_lines.specs.Saturated.{saturated, saturatedNumbers, unfit, row, followed, firstOf, firstFields}
+use Rattle.plan_sheet.specs.Sheet.{Rule, judgeNumbers, judge, Section, stopped, onJudged, onLine, section}
 use Rattle.plan_sheet.proofs.Ranges.{Blind}
 
 apart : {A : Type 0} (zs : List ℤ) (rest : List ℕ) → row zs rest ≡ unfit → A

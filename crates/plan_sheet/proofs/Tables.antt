@@ -8,7 +8,7 @@ use native.Mathlib.Omega.{arith}
 use lib.IntN.{ℤ, pos}
 use lib.Signed.{leZ}
 use lib.ListN.{length, getD, take, drop}
-use lib.Seq.{take-take, drop-drop, take-at, drop-at, length-take-le, getD-drop, getD-take, paste, take-nil, drop-nil}
+use lib.Seq.{take-take, drop-drop, take-at, drop-at, length-take-le, getD-drop, getD-take, paste, take-nil}
 use Rattle.plan_sheet.specs.Sheet.{clipOf, clippedBefore}
 use Rattle.plan_sheet.specs.Told.{rowsOf}
 

@@ -1,18 +1,18 @@
 -- The loop over a section's lines: its invariant, and what each turn makes of it. Assumes nothing.
 use mathlib.Core.Path.{_≡_, refl, sym, ap, _∙_}
-use mathlib.Core.Bool.{Bool, true, false, not, cond}
+use mathlib.Core.Bool.{Bool, true, false, not}
 use mathlib.Core.List.{List, [], _∷_, _++_}
-use Prim.Native.Nat.{ℕ, zero, suc, _+_, _*_, _-_, _≤_, _<_}
+use Prim.Native.Nat.{ℕ, suc, _+_, _*_, _-_, _≤_, _<_}
 use native.Mathlib.Nat.{suc-mul, mul-le-mul}
 use native.Mathlib.Omega.{arith}
 use native.Mathlib.Numerals.{add-one}
 use borrow.Author.Tests.{not-true, not-false}
-use lib.IntN.{ℤ, pos}
+use lib.IntN.{ℤ}
 use lib.ListN.{length, take, drop}
 use lib.Seq.{paste, length-paste}
 use Rattle.sheet_lines.specs.declared.LineRow.{LineRow}
-use Rattle.sheet_lines.specs.Saturated.{First, unfit, row, firstFields, toldLine}
-use Rattle.plan_sheet.specs.Sheet.{Rule, Section, stopped, ended, section}
+use Rattle.sheet_lines.specs.Saturated.{unfit, row, firstFields, toldLine}
+use Rattle.plan_sheet.specs.Sheet.{stopped, ended, section}
 use Rattle.plan_sheet.specs.Told.{ruleOf, boundOf, rowsOf}
 use Rattle.plan_sheet.specs.declared.Kind.{Kind}
 use Rattle.plan_sheet.specs.declared.Kind.the-variants as kind

@@ -1,7 +1,7 @@
 -- The sheet from its sections, and rows of its tables. Assumes nothing.
 use mathlib.Core.Path.{_≡_, refl, sym, ap, _∙_}
-use mathlib.Core.Bool.{Bool, true, false, cond}
-use mathlib.Core.List.{List, [], _∷_, _++_}
+use mathlib.Core.Bool.{true}
+use mathlib.Core.List.{List, []}
 use Prim.Native.Nat.{ℕ, zero, suc, _+_, _*_, _≤_, _<_}
 use native.Mathlib.Nat.{suc-mul}
 use native.Mathlib.Omega.{arith}
@@ -11,7 +11,7 @@ use lib.IntN.{ℤ, pos}
 use lib.ListN.{length, getD, take, drop, drop-of-length-le}
 use lib.Seq.{drop-cons, drop-drop, getD-take, getD-drop}
 use Rattle.plan_sheet.specs.declared.PlaceLine.{PlaceLine}
-use Rattle.plan_sheet.specs.Sheet.{placeOf, Rule, Section, stopped, ended, placeRule, clipRule, tapRule, counted, Sheet, Read, refused, sheet, thenRead, atEnd, readSheet}
+use Rattle.plan_sheet.specs.Sheet.{placeOf, stopped, ended, placeRule, clipRule, tapRule, counted, Sheet, refused, sheet, thenRead, atEnd, readSheet}
 use Rattle.plan_sheet.specs.Told.{rowsOf, rowAt, fromTaps, fromClips}
 
 -- ---- the end

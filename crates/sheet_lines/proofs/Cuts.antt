@@ -1,16 +1,16 @@
 -- The first line of some bytes, by the place of its LF. Assumes nothing.
-use mathlib.Core.Path.{_≡_, refl, sym, ap, _∙_}
+use mathlib.Core.Path.{_≡_, refl, ap}
 use mathlib.Core.Bool.{Bool, true, false, cond}
 use mathlib.Core.List.{List, [], _∷_}
-use Prim.Native.Nat.{ℕ, zero, suc, _+_, _-_, _≤_, _<_}
+use Prim.Native.Nat.{ℕ, suc, _+_, _-_, _≤_, _<_}
 use native.Mathlib.Omega.{arith}
 use lib.Dec.{eqb}
 use lib.IntN.{ℤ}
 use lib.ListN.{length, take, drop, length-drop, drop-of-length-le}
 use lib.Seq.{take-length, drop-drop}
 use Rattle.bytes.specs.Bytes.{slice, indexOf, indexAfter}
-use Rattle.sheet_lines.specs.Lines.{Numbers, malformed, numbers, fields, Cut, without, line, beginning, cut}
-use Rattle.sheet_lines.specs.Saturated.{saturatedNumbers, First, unfit, row, followed, firstOf, firstFields}
+use Rattle.sheet_lines.specs.Lines.{Numbers, malformed, numbers, fields, without, line, beginning, cut}
+use Rattle.sheet_lines.specs.Saturated.{saturatedNumbers, unfit, row, followed, firstFields}
 
 ends : (e : Bool) (b : ℕ) (s : List ℕ) → (indexOf 10 s < length s → cut s ≡ line (take (indexOf 10 s) s) (drop (suc (indexOf 10 s)) s))
     → indexAfter e (indexOf 10 s) < length (b ∷ s)

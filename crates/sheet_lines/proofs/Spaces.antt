@@ -1,13 +1,13 @@
 -- A line's words, space by space, and the row that is made of their numbers. Assumes nothing.
 use mathlib.Core.Path.{_≡_, refl, sym, ap, _∙_}
 use mathlib.Core.Bool.{Bool, true, false, not, cond}
-use mathlib.Core.List.{List, [], _∷_, _++_, map, append-nil, append-assoc}
-use Prim.Native.Nat.{ℕ, zero, suc, _+_, _-_, _≤_, _<_}
+use mathlib.Core.List.{List, [], _∷_, _++_, append-nil, append-assoc}
+use Prim.Native.Nat.{ℕ, suc, _+_, _-_, _≤_, _<_}
 use native.Mathlib.Numerals.{add-one}
 use native.Mathlib.Omega.{arith}
 use borrow.Author.Tests.{le-leb, lt-leb, leb-true, leb-false, ne-eqb, eq-eqb, not-true, not-false}
 use lib.Dec.{leb, eqb, leb·suc-suc, leb·zero}
-use lib.IntN.{ℤ, pos}
+use lib.IntN.{ℤ}
 use lib.ListN.{length, take, drop, set, length-drop, length-append, length-map, length-set}
 use lib.Seq.{take-length, drop-drop, take-suc-set, length-take-le}
 use Rattle.bytes.specs.Bytes.{slice, indexOf, indexAfter}

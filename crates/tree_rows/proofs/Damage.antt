@@ -39,6 +39,10 @@ use Rattle.tree_rows.proofs.Rows.{after}
 use Rattle.geometry.specs.declared.rect.Rect.{Rect}
 use Rattle.tree_state.specs.Tree.{placeOf}
 use lib.ListN.{getD}
+use Rattle.transforms.specs.Transform.{identity}
+use lib.IntN.{pos}
+use Rattle.clips.specs.declared.clip.Clip.the-variants as is
+use Rattle.tree_state.specs.declared.Refusal.the-variants as no
 
 unfoldable pub damage : List Call → List Rect
 damage cs = commitTree (after cs) .damage
@@ -73,3 +77,17 @@ pub damages : (damage (root ∷ settle ∷ call.set-local-bounds a (box 0 0 20 2
     × (damage (root ∷ root ∷ settle ∷ call.set-local-bounds b (box 0 0 20 20) ∷ call.remove a ∷ []) ≡ box 0 0 10 10 ∷ box 0 0 10 10 ∷ box 0 0 20 20 ∷ [])
 unfolding num point id local ten root child settle turn shifted grown after a b c places halfClip hidden demand.run step verdict accepted outcome answer minimum maximum magnitude same hasArea ordered intersection contains plusInsets rectEq insetsEq noInsets finiteRect finiteInsets mapped product inverse transformRectBbox affineEq finiteAffine clipRect clipRadii fitted shaped constructed quadrant excess insideRounded inside clipRectEq clipEq finiteClipRect finiteClip asConstructed aabbEq containsPoint overlaps boxAt putBox idAt putId times every onceBelow soundOf nextGeneration queueWith lengthWith markOf previousAt slotFor usedFor generationFor actOf boxBefore movedFrom movedTo workStep work query.slots freshIndex workOf rectSlots pointSlots image meetOwn meet clipped placed worldBox hitBox reached hasAll finiteLocal stored rectAt putRect insetsAt putInsets affineAt putAffine clipAt kindOf edgesFrom putClip clipRectAt isThere putClipRect run segEnd indexOf postOf depthsFrom afterCut splice addRoot addLast cutTree graft graftLast moveLast moveRoot numberOf checkedNext checked freshTree live localAt some anyOf needsCommit countOf countBelow everyOf slotsRight nodeRight entryRight countsRight soundTree setTransform setClip setBounds setSlop setLevel setFlags insertTree removeAll removeTree reparentTree lessDeep ancestors putIn startsBelow placesFrom walkAll handedDown rework reworkAll rectsOf commitTree keepOf inStoredClips fine stronger strongest hitNode pathTo rectNodes pointNodes round units odd size span climb neg add sub mul div eq le lt isNan demand.outcomes parentOf childrenOf nextOf prevOf atDepth damage box
 damages = (refl, refl, refl, refl)
+
+-- only a changed world box gives damage, its old form and its new, each with area; removals in their order, children first
+pub more-damages : (damage (root ∷ []) ≡ box 0 0 10 10 ∷ [])  -- a new node: its new form alone
+    × (damage (root ∷ settle ∷ call.set-local-transform a (shifted 20 0) ∷ call.set-local-transform a identity ∷ []) ≡ [])  -- set back: no damage
+    × (damage (root ∷ settle ∷ call.reparent a node.None ∷ []) ≡ [])  -- moved, and where it was: none
+    × (damage (call.insert node.None (local 0 is.None (pos 0)) ∷ settle ∷ call.remove a ∷ []) ≡ [])  -- a removed box without area
+    × (damage (root ∷ settle ∷ call.set-hit-slop a (record { x0 = num 5; y0 = num 5; x1 = num 5; y1 = num 5 }) ∷ []) ≡ [])  -- slop is no damage
+    × (damage (call.insert node.None (grown (num 5)) ∷ settle ∷ call.remove a ∷ []) ≡ box 0 0 10 10 ∷ [])  -- of a removed node the world box, not the hit box
+    × (damage (root ∷ call.insert node.None (local 20 is.None (pos 0)) ∷ settle ∷ call.remove b ∷ call.remove a ∷ []) ≡ box 0 0 20 20 ∷ box 0 0 10 10 ∷ [])  -- removals in their order
+    × (damage (root ∷ call.insert (node.Some a) (local 20 is.None (pos 0)) ∷ settle ∷ call.remove a ∷ []) ≡ box 0 0 20 20 ∷ box 0 0 10 10 ∷ [])  -- children first
+    × (damage (root ∷ settle ∷ child a ∷ call.remove b ∷ call.set-local-bounds a (box 0 0 20 20) ∷ []) ≡ box 0 0 10 10 ∷ box 0 0 20 20 ∷ [])  -- a node that no commit has seen gives none
+    × (numberOf no.Unsound ≡ 1)  -- document 01, 1
+unfolding num point id local ten root child settle turn shifted grown after a b c places halfClip hidden demand.run step verdict accepted outcome answer minimum maximum magnitude same hasArea ordered intersection contains plusInsets rectEq insetsEq noInsets finiteRect finiteInsets mapped product inverse transformRectBbox affineEq finiteAffine clipRect clipRadii fitted shaped constructed quadrant excess insideRounded inside clipRectEq clipEq finiteClipRect finiteClip asConstructed aabbEq containsPoint overlaps boxAt putBox idAt putId times every onceBelow soundOf nextGeneration queueWith lengthWith markOf previousAt slotFor usedFor generationFor actOf boxBefore movedFrom movedTo workStep work query.slots freshIndex workOf rectSlots pointSlots image meetOwn meet clipped placed worldBox hitBox reached hasAll finiteLocal stored rectAt putRect insetsAt putInsets affineAt putAffine clipAt kindOf edgesFrom putClip clipRectAt isThere putClipRect run segEnd indexOf postOf depthsFrom afterCut splice addRoot addLast cutTree graft graftLast moveLast moveRoot numberOf checkedNext checked freshTree live localAt some anyOf needsCommit countOf countBelow everyOf slotsRight nodeRight entryRight countsRight soundTree setTransform setClip setBounds setSlop setLevel setFlags insertTree removeAll removeTree reparentTree lessDeep ancestors putIn startsBelow placesFrom walkAll handedDown rework reworkAll rectsOf commitTree keepOf inStoredClips fine stronger strongest hitNode pathTo rectNodes pointNodes round units odd size span climb neg add sub mul div eq le lt isNan demand.outcomes parentOf childrenOf nextOf prevOf atDepth damage box
+more-damages = (refl, refl, refl, refl, refl, refl, refl, refl, refl, refl)

@@ -1,3 +1,5 @@
+-- `plan_sheet::clip_place_open` meets its contract: a bound, and the clip lines before.
+-- Assumes nothing.
 use Rattle.plan_sheet.specs.Told.{rowsOf}
 use Rattle.plan_sheet.specs.Sheet.{clipPlaceOpen, clipOf, within, clippedBefore}
 use lib.ListN.{getD}
@@ -6,33 +8,23 @@ use mir.Val.{SFits}
 use mir.Syntax.{w64}
 use mir.ValLaws.{toZ-pos, toZ-ofZ}
 use mathlib.Core.Path.{_≡_}
-use Prim.Native.Nat.{ℕ, _+_, _-_, _≤_, _<_}
-use native.Mathlib.Omega.{arith}
+use Prim.Native.Nat.{_-_, _<_}
 use borrow.Author.Needs.{needs}
 use Rattle.plan_sheet.proofs.clip_place_open.Statement.{statement}
 use Rattle.plan_sheet.proofs.clip_place_open.Tie as tie
-use Rattle.plan_sheet.proofs.clip_place_open.Reads as reads
-use Rattle.plan_sheet.proofs.clip_place_open.Lts as lts
-use Rattle.plan_sheet.proofs.clipped_before.Reads as clipped-before-reads
-use Rattle.plan_sheet.proofs.ranged.Reads as ranged-reads
 
--- src/lib.rt:194:13
 element-copy-out-k : tie.Need-element-copy-out-k
 element-copy-out-k c = search needs
 
--- src/lib.rt:195:23
 cast-ranged : tie.Need-cast-ranged
 cast-ranged c = search needs
 
--- src/lib.rt:195:5
 ranged-requires : tie.Need-ranged-requires
 ranged-requires c κs = search needs
 
--- src/lib.rt:195:41
 clipped-before-requires : tie.Need-clipped-before-requires
 clipped-before-requires c κs = search needs
 
--- src/lib.rt:190:1
 returns : tie.Need-returns
 unfolding clipPlaceOpen clipOf
 returns c = let s = c .before .before .before in

@@ -1,4 +1,6 @@
-use Prim.Native.Nat.{_*_}
+-- `plan_sheet::clipped_before` meets its contract. The invariant: a clip line from here on names the place exactly if one of all does. The measure is how many are left.
+-- Assumes nothing.
+use Prim.Native.Nat.{_*_, _-_, _≤_}
 use mathlib.Core.Bool.{_&&_}
 use lib.ListN.{getD}
 use lib.Signed.{leZ}
@@ -9,15 +11,11 @@ use mir.ValLaws.{toZ-ofZ}
 use Rattle.plan_sheet.proofs.Tables.{clippedFrom, none-left, this-one, not-this, from-first}
 use Rattle.plan_sheet.specs.Told.{rowsOf}
 use Rattle.plan_sheet.specs.Sheet.{clippedBefore}
-use mathlib.Core.Path.{_≡_, sym, _∙_}
-use Prim.Native.Nat.{ℕ, _+_, _-_, _≤_, _<_}
+use mathlib.Core.Path.{_≡_, _∙_}
 use native.Mathlib.Omega.{arith}
 use borrow.Author.Needs.{needs}
 use Rattle.plan_sheet.proofs.clipped_before.Statement.{statement}
 use Rattle.plan_sheet.proofs.clipped_before.Tie as tie
-use Rattle.plan_sheet.proofs.clipped_before.Reads as reads
-use Rattle.plan_sheet.proofs.clipped_before.Lts as lts
-use Rattle.plan_sheet.proofs.same.Reads as same-reads
 
 abbrev Inv-loop : tie.InvT-loop
 Inv-loop table n k i₀ i = (i ≤ n) × (clippedFrom table n i (toZ w64 k) ≡ clippedBefore (rowsOf 6 n table) (toZ w64 k))
@@ -38,39 +36,30 @@ same-here c =
     let s = c .before .before .before .before in
     rw (toZ-ofZ w64 (s .args .k) (s .fits .k), toZ-ofZ w64 (number c) f) at (c .same .ensures)
 
--- src/lib.rt:181:5
 loop-holds : tie.Need-loop-holds Inv-loop μ-loop
 loop-holds c = (omega arith, from-first (c .args .table .now) (c .args .n) _)
 
--- src/lib.rt:182:23
 mul-p : tie.Need-mul-p Inv-loop μ-loop
 mul-p c = search needs
 
--- src/lib.rt:182:17
 mul-p-2 : tie.Need-mul-p-2 Inv-loop μ-loop
 mul-p-2 c = search needs
 
--- src/lib.rt:182:17
 shared-slice-copy-out-p : tie.Need-shared-slice-copy-out-p Inv-loop μ-loop
 shared-slice-copy-out-p c = search needs
 
--- src/lib.rt:183:12
 same-requires : tie.Need-same-requires Inv-loop μ-loop
 same-requires c κs = search needs
 
--- src/lib.rt:184:13
 returns : tie.Need-returns Inv-loop μ-loop
 returns c = this-one (c .before .before .before .before .before .args .table .now) (c .before .before .before .before .before .args .n) (c .before .before .before .before .loop .i) (c .before .before .before .before .before .args .k) (c .before .same .result) (c .before .before .before .loop-test .taken) (same-here (c .before)) (c .if1 .taken) ∙ inv-here (c .before .before .before .before)
 
--- src/lib.rt:186:9
 add-i : tie.Need-add-i Inv-loop μ-loop
 add-i c = search needs
 
--- src/lib.rt:181:5
 loop-less : tie.Need-loop-less Inv-loop μ-loop
 loop-less c = search needs
 
--- src/lib.rt:181:5
 loop-again : tie.Need-loop-again Inv-loop μ-loop
 loop-again c = (
   omega arith,
@@ -78,7 +67,6 @@ loop-again c = (
       (not-this (c .before .before .before .before .before .args .table .now) (c .before .before .before .before .before .args .n) (c .before .before .before .before .loop .i) (c .before .before .before .before .before .args .k) (c .before .same .result) (c .before .before .before .loop-test .taken) (same-here (c .before)) (c .if1 .left) ∙ inv-here (c .before .before .before .before)),
 )
 
--- src/lib.rt:176:1
 returns-2 : tie.Need-returns-2 Inv-loop μ-loop
 returns-2 c = none-left (c .before .before .args .table .now) (c .before .before .args .n) (c .before .loop .i) (c .before .before .args .k) (c .loop-test .left) ∙ inv-here (c .before)
 

@@ -1,0 +1,1 @@
+// No code: worked rows of the definitions that the plan and the tree share (numbers, rectangles, transforms, clips, boxes, local records).
