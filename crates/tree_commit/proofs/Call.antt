@@ -24,7 +24,7 @@ use Rattle.tree_state.specs.Sound.{SoundTree, soundTree}
 use Rattle.tree_sound.proofs.Exact.{decides}
 use Rattle.tree_steps.specs.Setters.{held}
 use Rattle.tree_steps.specs.Commit.{visitsOf, begun, noMarks, finished, commitTree, commitVerdict, rectsInFront}
-use Rattle.tree_laws.proofs.Whole.{Whole, sized}
+use Rattle.tree_laws.proofs.Whole.{Whole, WholeIndex, sized}
 use Rattle.tree_nodes.proofs.Nodes.{checked-accepted}
 use Rattle.tree_visits.specs.Visits.{lent}
 use Rattle.tree_visits.proofs.Whole.{front-take, visits-lent}
@@ -82,7 +82,7 @@ no-marks : (a b c : List Bool) → (a ≡ replicate 256 false) × (b ≡ replica
     → _≡_ {A = Marks} (record { marked = a; transform = b; clip = c }) noMarks
 no-marks a b c e = rw (e .0, e .1, e .2)
 
-pub finish-done : (t : Tree) (a b c : List Bool) (mark kept free present : List ℕ) (boxes : List Float) (frees : ℕ)
+finish-done : (t : Tree) (a b c : List Bool) (mark kept free present : List ℕ) (boxes : List Float) (frees : ℕ)
     → Left (work (t .index .aabb) (t .index .prev) (start (t .index .mark) (t .index .kept) (t .index .free) (t .index .frees) (t .index .backend .present) (t .index .backend .boxes)) (take (t .index .queued) (t .index .dirty))) mark kept free present boxes frees
     → (a ≡ replicate 256 false) × (b ≡ replicate 256 false) × (c ≡ replicate 256 false)
     → rest t (record { marked = a; transform = b; clip = c }) (index (record { present = present; boxes = boxes }) (t .index .generation) mark (t .index .payload) (t .index .aabb) kept (t .index .prev) (t .index .used) free frees (t .index .dirty) 0)
@@ -95,9 +95,12 @@ finish-done t a b c mark kept free present boxes frees L e =
 abbrev Sounds : Tree → Type 0
 Sounds t = SoundOf (t .index .mark) (t .index .free) (t .index .frees) (t .index .dirty) (t .index .queued) (t .index .used)
 
+abbrev Committable : Tree → Type 0
+Committable t = WholeIndex (t .index) × Sounds t
+
 -- the reworked tree's index can be committed
-pub finish-ready : (t w : Tree) → Whole t → SoundTree t → w ≡ worked t .tree → Sounds w
-finish-ready t w W S e = subst Sounds (sym e) (index-ready t W S .1)
+pub finish-ready : (t w : Tree) → Whole t → SoundTree t → w ≡ worked t .tree → Committable w
+finish-ready t w W S e = subst Committable (sym e) (index-ready t W S)
 
 abbrev Right : Tree → List Float → AfterCommit → List Float → Type 0
 Right t room r room' = (r ≡ done (commitTree t)) × (room' ≡ rectsInFront (commitTree t .damage) room)
@@ -106,10 +109,27 @@ pub clean : (t : Tree) (room : List Float) → needsCommit t ≡ false → Right
 unfolding commitTree rectsInFront
 clean t room e = rw e (refl, refl)
 
-pub committed : (t w u : Tree) (n : ℕ) (room room' : List Float) → needsCommit t ≡ true → w ≡ worked t .tree → n ≡ length (worked t .damage) → u ≡ finished w
+committed : (t w u : Tree) (n : ℕ) (room room' : List Float) → needsCommit t ≡ true → w ≡ worked t .tree → n ≡ length (worked t .damage) → u ≡ finished w
     → room' ≡ rectsInFront (worked t .damage) room → Right t room (record { answer = of.Damage n; tree = u }) room'
 unfolding commitTree
 committed t w u n room room' e ew en eu er = rw (e, en, eu, ew) (refl, er)
+
+-- from what each part leaves
+pub joined : (t w : Tree) (a b c : List Bool) (mark kept free present : List ℕ) (boxes : List Float) (frees n : ℕ) (room room' : List Float)
+    → needsCommit t ≡ true
+    → w ≡ worked t .tree
+    → n ≡ length (worked t .damage)
+    → Left (work (w .index .aabb) (w .index .prev) (start (w .index .mark) (w .index .kept) (w .index .free) (w .index .frees) (w .index .backend .present) (w .index .backend .boxes)) (take (w .index .queued) (w .index .dirty))) mark kept free present boxes frees
+    → (a ≡ replicate 256 false) × (b ≡ replicate 256 false) × (c ≡ replicate 256 false)
+    → room' ≡ rectsInFront (worked t .damage) room
+    → Right t room
+    (record {
+      answer = of.Damage n;
+      tree = rest w (record { marked = a; transform = b; clip = c }) (index (record { present = present; boxes = boxes }) (w .index .generation) mark (w .index .payload) (w .index .aabb) kept (w .index .prev) (w .index .used) free frees (w .index .dirty) 0);
+    })
+    room'
+joined t w a b c mark kept free present boxes frees n room room' e ew en L m er =
+    committed t w _ n room room' e ew en (finish-done w a b c mark kept free present boxes frees L m) er
 
 -- ---- the whole
 

@@ -4,9 +4,8 @@ ghost use mathlib.Core.Path.{_≡_};
 ghost use mathlib.Core.Bool.{true};
 ghost use Prim.Native.Nat.{_≤_};
 ghost use lib.ListN.{length};
-ghost use Rattle.index_sound.specs.Sound.{SoundOf};
 ghost use Rattle.tree_state.specs.Sound.{soundTree};
-ghost use Rattle.tree_steps.specs.Commit.{commitTree, rectsOf, finished, rectsInFront};
+ghost use Rattle.tree_steps.specs.Commit.{commitTree, rectsOf, rectsInFront};
 ghost use Rattle.tree_commit.specs.Commit as spec;
 use tree_state::Keys;
 use tree_state::Marks;
@@ -44,24 +43,22 @@ fn put_pending(rects: &[f64; 1024], n: usize, room: &mut [f64])
     }
 }
 
-// The tree once every place is reworked, and how many rectangles of damage stand in the room.
-pub struct Worked {
-    pub tree: Tree,
-    pub count: usize,
-}
-
-// Inner: the pending rectangles, then the rework of each place that the marks call for.
-pub fn rework_tree(t: Tree, room: &mut [f64]) -> Worked
+// Inner: the commit of a sound tree, with room enough. A tree that needs none stays as it is. Its tables are copied once and lent from there: the
+// pending rectangles, the rework of each place that the marks call for, the index's commit; no mark, nothing that counts as changed and no
+// pending rectangle is left.
+pub fn commit_sound(t: Tree, room: &mut [f64]) -> AfterCommit
     requires { ⌜ (soundTree t ≡ true) × (2048 ≤ length (now room)) ⌝ }
-    ensures tree { λ r. ⌜ r .tree ≡ spec.worked t .tree ⌝ }
-    ensures count { λ r. ⌜ r .count ≡ length (spec.worked t .damage) ⌝ }
-    ensures room { λ _. ⌜ now (room .exit) ≡ rectsInFront (spec.worked t .damage) (now (room .entry)) ⌝ }
+    ensures answer { λ r. ⌜ r ≡ spec.done (commitTree t) ⌝ }
+    ensures room { λ _. ⌜ now (room .exit) ≡ rectsInFront (commitTree t .damage) (now (room .entry)) ⌝ }
 {
     let slots = t.slots;
     let links = t.links;
     let locals = t.locals;
     let worlds = t.worlds;
     let marks = t.marks;
+    let mut marked = marks.marked;
+    let mut changed = marks.transform;
+    let mut changed_clip = marks.clip;
     let keys = t.keys;
     let pending = t.pending;
     let index = t.index;
@@ -80,8 +77,24 @@ pub fn rework_tree(t: Tree, room: &mut [f64]) -> Worked
     let mut aabb = index.aabb;
     let mut kept = index.kept;
     let mut prev = index.prev;
-    let free = index.free;
+    let mut free = index.free;
+    let mut present = backend.present;
+    let mut boxes = backend.boxes;
     let mut dirty = index.dirty;
+    let need = tree_need::needs(
+        &links.order,
+        links.count,
+        &marked,
+        &mark,
+        index.used,
+        pending.count,
+    );
+    if !need {
+        return AfterCommit {
+            answer: Committed::Damage(0),
+            tree: t,
+        };
+    }
     put_pending(&pending.rects, pending.count, room);
     let mut visits = [0u32; 256];
     let n = tree_visits::places(
@@ -89,9 +102,9 @@ pub fn rework_tree(t: Tree, room: &mut [f64]) -> Worked
         &links.depth,
         links.count,
         &slots.generation,
-        &marks.marked,
-        &marks.transform,
-        &marks.clip,
+        &marked,
+        &changed,
+        &changed_clip,
         &mut visits,
     );
     let r = tree_fold::rework_all(
@@ -125,8 +138,22 @@ pub fn rework_tree(t: Tree, room: &mut [f64]) -> Worked
         index.frees,
         index.queued,
         room,
-        pending.count,
+        pending.count, // behind what is pending
     );
+    let frees = tree_rework::commit_index(
+        &mut mark,
+        &mut kept,
+        &mut free,
+        &mut present,
+        &mut boxes,
+        &aabb,
+        &prev,
+        &dirty,
+        r.queued,
+        r.frees,
+    );
+    tree_rework::clear_marks(&mut marked, &mut changed, &mut changed_clip);
+    let rects = pending.rects;
     let tree = Tree {
         slots,
         links,
@@ -138,13 +165,17 @@ pub fn rework_tree(t: Tree, room: &mut [f64]) -> Worked
             bounds,
             hit_bounds,
         },
-        marks,
+        marks: Marks {
+            marked,
+            transform: changed,
+            clip: changed_clip,
+        },
         keys: Keys {
             committed,
             slot: key_slot,
             generation: key_generation,
         },
-        pending,
+        pending: Pending { rects, count: 0 },
         index: Index {
             generation,
             mark,
@@ -154,106 +185,15 @@ pub fn rework_tree(t: Tree, room: &mut [f64]) -> Worked
             prev,
             used: r.used,
             free,
-            frees: r.frees,
-            dirty,
-            queued: r.queued,
-            backend,
-        },
-    };
-    Worked {
-        tree,
-        count: r.count,
-    }
-}
-
-// Inner: the index's commit; no mark, nothing that counts as changed and no pending rectangle is left.
-pub fn finish(t: Tree) -> Tree
-    requires { ⌜ SoundOf (t .index .mark) (t .index .free) (t .index .frees) (t .index .dirty) (t .index .queued) (t .index .used) ⌝ }
-    ensures { λ r. ⌜ r ≡ finished t ⌝ }
-{
-    let slots = t.slots;
-    let links = t.links;
-    let locals = t.locals;
-    let worlds = t.worlds;
-    let marks = t.marks;
-    let keys = t.keys;
-    let pending = t.pending;
-    let index = t.index;
-    let backend = index.backend;
-    let rects = pending.rects;
-    let mut marked = marks.marked;
-    let mut transform = marks.transform;
-    let mut clip = marks.clip;
-    let generation = index.generation;
-    let mut mark = index.mark;
-    let payload = index.payload;
-    let aabb = index.aabb;
-    let mut kept = index.kept;
-    let prev = index.prev;
-    let mut free = index.free;
-    let dirty = index.dirty;
-    let mut present = backend.present;
-    let mut boxes = backend.boxes;
-    let frees = tree_rework::commit_index(
-        &mut mark,
-        &mut kept,
-        &mut free,
-        &mut present,
-        &mut boxes,
-        &aabb,
-        &prev,
-        &dirty,
-        index.queued,
-        index.frees,
-    );
-    tree_rework::clear_marks(&mut marked, &mut transform, &mut clip);
-    let cleared = Marks {
-        marked,
-        transform,
-        clip,
-    };
-    Tree {
-        slots,
-        links,
-        locals,
-        worlds,
-        marks: cleared,
-        keys,
-        pending: Pending { rects, count: 0 },
-        index: Index {
-            generation,
-            mark,
-            payload,
-            aabb,
-            kept,
-            prev,
-            used: index.used,
-            free,
             frees,
             dirty,
             queued: 0,
             backend: FlatVec { present, boxes },
         },
-    }
-}
-
-// Inner: the commit of a sound tree, with room enough. A tree that needs none stays as it is.
-pub fn commit_sound(t: Tree, room: &mut [f64]) -> AfterCommit
-    requires { ⌜ (soundTree t ≡ true) × (2048 ≤ length (now room)) ⌝ }
-    ensures answer { λ r. ⌜ r ≡ spec.done (commitTree t) ⌝ }
-    ensures room { λ _. ⌜ now (room .exit) ≡ rectsInFront (commitTree t .damage) (now (room .entry)) ⌝ }
-{
-    if !tree_need::needs_commit(t) {
-        return AfterCommit {
-            answer: Committed::Damage(0),
-            tree: t,
-        };
-    }
-    let w = rework_tree(t, room);
-    let worked = w.tree;
+    };
     AfterCommit {
-        answer: Committed::Damage(w.count),
-        tree: finish(worked),
+        answer: Committed::Damage(r.count),
+        tree,
     }
 }
 
