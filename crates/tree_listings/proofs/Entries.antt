@@ -4,7 +4,7 @@ use mathlib.Core.Bool.{Bool, true, false, not, _&&_, _||_, cond}
 use mathlib.Core.List.{List, [], _∷_, _++_, map, map-append, append-nil}
 use Prim.Native.Nat.{ℕ, zero, suc, _+_, _≤_, _<_}
 use native.Mathlib.Omega.{arith}
-use native.Mathlib.Decide.{ℕ-discrete}
+use native.Mathlib.Decide.{ℕ-discrete, decLt}
 use borrow.Author.Tests.{eq-eqb, ltb-false}
 use lib.Dec.{eqb, ltb}
 use lib.ListN.{length, getD, length-append, length-map}
@@ -218,11 +218,30 @@ module _ (id : ℕ → NodeId) (p : ℕ → Bool) (room₀ : List ℕ) where
       let s : slots (k + 1) p ≡ slots k p = rw (slots-next k p, ← et) (append-nil (slots k p)) in
       record { lies = er ∙ rw s (L .lies); many = en ∙ rw s (L .many) }
 
+  -- nothing is taken beyond what is used
+  slots-used : (u n : ℕ) → u ≤ n → ((k : ℕ) → u ≤ k → p k ≡ false) → slots u p ≡ slots n p
+  unfolding slots
+  slots-used u zero h f = let e : u ≡ 0 = omega arith in rw e
+  slots-used u (suc n) h f =
+      elim (decLt n u) [
+        | yes l ↦ (let e : u ≡ suc n = omega arith in rw e)
+        | no g ↦ slots-used u n (omega arith) f ∙ sym (rw (f n (omega arith)) (append-nil (slots n p)))
+      ]
+
+  pub listing-used : (room : List ℕ) (n u : ℕ) → u ≤ 512 → ((k : ℕ) → u ≤ k → p k ≡ false) → Listing id p room₀ room n u → Listing id p room₀ room n 512
+  listing-used room n u h f L =
+      let e = slots-used u 512 h f in
+      record { lies = rw (← e) (L .lies); many = rw (← e) (L .many) }
+
   -- all entries are looked at
   pub listing-ends : (room : List ℕ) (n k : ℕ) → Listing id p room₀ room n k → k ≡ 512 → (ids : List NodeId) → ids ≡ map id (slots 512 p) → (room ≡ idsInFront ids room₀) × (n ≡ length ids)
   listing-ends room n k L e ids i = rw (i, ← e) (L .lies, L .many ∙ sym (length-map (slots k p) id))
 
 -- ---- a tree's listing by a rectangle
+
+unmet : (p m o q : Bool) → m ≡ false → p && (m && o) && q ≡ false
+unmet true m o q e = rw e
+unmet false m o q e = refl
 
 map-map : {A B C : Type 0} (f : B → C) (g : A → B) (l : List A) → map f (map g l) ≡ map (λ x. f (g x)) l
 map-map f g [] = refl
@@ -241,6 +260,10 @@ module _ (t : Tree) where
 
     abbrev pub takes : ℕ → Bool
     takes k = visited k && meets (t .locals .flags) (t .worlds .bounds) asked rect (nodeOf k)
+
+    -- an empty slot is not taken
+    pub not-taken : (k : ℕ) → getD (t .index .mark) k 0 ≡ 0 → takes k ≡ false
+    not-taken k z = unmet (not (eqb (getD (t .index .backend .present) k 0) 0)) (not (eqb (getD (t .index .mark) k 0) 0)) _ _ (rw z)
 
     -- what a taken entry gives
     pub taken-low : Carried (t .index .mark) (t .index .payload) → (k : ℕ) → k < 512 → takes k ≡ true → nodeOf k < 256

@@ -96,7 +96,7 @@ fn as_given(rect: Rect) -> Aabb2D
     box_types::rect_to_aabb(rect)
 }
 
-// The listing of an accepted call.
+// The listing of an accepted call: no entry stands beyond what is used.
 fn list(t: Tree, rect: Rect, asked: NodeFlags, room: &mut [u32]) -> usize
     requires { ⌜ request.requestVerdict t asked (length (now room)) ≡ is.Accepted ⌝ }
     ensures { λ r. ⌜ (now (room .exit) ≡ request.idsInFront (request.rectNodes t asked rect) (now (room .entry))) × (r ≡ length (request.rectNodes t asked rect)) ⌝ }
@@ -104,7 +104,7 @@ fn list(t: Tree, rect: Rect, asked: NodeFlags, room: &mut [u32]) -> usize
     let given = as_given(rect);
     let mut n = 0;
     let mut k = 0usize;
-    while k < 512 {
+    while k < t.index.used {
         let take = takes(
             &t.index.backend.present,
             &t.index.backend.boxes,

@@ -1,8 +1,10 @@
 -- One of a list, and of the numbers below a bound: one more at a time. What soundness tells of the first places of the table.
-use mathlib.Core.Path.{_≡_, refl}
+use mathlib.Core.Path.{_≡_, refl, sym, _∙_}
 use mathlib.Core.Bool.{Bool, true, false, _&&_, _||_}
 use mathlib.Core.List.{List, [], _∷_, _++_}
-use Prim.Native.Nat.{ℕ, suc, _+_, _≤_, _<_}
+use Prim.Native.Nat.{ℕ, zero, suc, _+_, _≤_, _<_}
+use native.Mathlib.Omega.{arith}
+use native.Mathlib.Decide.{decLt}
 use native.Mathlib.Numerals.{add-one}
 use lib.ListN.{length, take, getD}
 use lib.Seq.{take-suc}
@@ -14,6 +16,7 @@ use Rattle.tree_state.specs.declared.Tree.{Tree}
 use Rattle.tree_state.specs.Tree.{anyOf, some, liveSlots}
 use Rattle.tree_state.specs.Sound.{everyOf, slotsRight, nodeRight, entryRight, countsRight, soundTree}
 use Rattle.tree_sound.specs.Parts.{Low, Sized}
+use Rattle.tree_sound.proofs.Exact.{decides}
 use Rattle.tree_sound.proofs.Whole.{slots-fit, slots-low}
 
 or-next : (a b c : Bool) → a || (b || c) ≡ a || b || c
@@ -36,6 +39,16 @@ pub some-more : (p : ℕ → Bool) (k : ℕ) → some (k + 1) p ≡ some k p || 
 unfolding some
 some-more p k = rw (add-one k)
 
+-- the test fails from u on
+pub some-used : (p : ℕ → Bool) (u n : ℕ) → u ≤ n → ((k : ℕ) → u ≤ k → p k ≡ false) → some u p ≡ some n p
+unfolding some
+some-used p u zero h f = let e : u ≡ 0 = omega arith in rw e
+some-used p u (suc n) h f =
+    elim (decLt n u) [
+      | yes l ↦ (let e : u ≡ suc n = omega arith in rw e)
+      | no g ↦ some-used p u n (omega arith) f ∙ sym (rw (f n (omega arith)) (or-false (some n p)))
+    ]
+
 -- ---- a sound tree's table
 
 sound-slots : (t : Tree) → soundTree t ≡ true → slotsRight (t .links .order) (t .links .count) (t .slots .free) (t .slots .frees) (t .slots .used) ≡ true
@@ -57,3 +70,7 @@ sound-places t s h =
       s .order,
       slots-low (L .order) (L .count) (t .slots .free) (t .slots .frees) (t .slots .used) r (s .order),
     )
+
+-- its entries are among the used slots
+pub sound-used : (t : Tree) → Sized t → soundTree t ≡ true → (t .index .used ≤ 512) × ((k : ℕ) → t .index .used ≤ k → getD (t .index .mark) k 0 ≡ 0)
+sound-used t s h = let S = decides t s .0 h .index in (S .used-fits, S .beyond)

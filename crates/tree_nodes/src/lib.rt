@@ -37,11 +37,43 @@ pub fn is_live<'a>(order: &'a [u32; 256], n: usize, generation: &'a [u32; 256], 
     generation[x] == i.1
 }
 
-// 1, 2: the tree is sound and the node live.
+// 1, 2: the tree is sound and the node live. The tables are lent from here: one more call by value would be one more copy of the tree.
 pub fn of_node(t: Tree, i: NodeId) -> Verdict
     ensures { λ r. ⌜ r ≡ spec.ofNode t i ⌝ }
 {
-    let v = held(t);
+    let sound = tree_sound::sound_tables(
+        &t.links.order,
+        &t.links.depth,
+        &t.slots.generation,
+        &t.slots.free,
+        &t.locals.bounds,
+        &t.locals.slop,
+        &t.locals.transform,
+        &t.locals.kind,
+        &t.locals.clip,
+        &t.locals.flags,
+        &t.worlds.bounds,
+        &t.worlds.hit_bounds,
+        &t.marks.marked,
+        &t.marks.transform,
+        &t.marks.clip,
+        &t.keys.committed,
+        &t.keys.slot,
+        &t.keys.generation,
+        &t.index.mark,
+        &t.index.generation,
+        &t.index.payload,
+        &t.index.free,
+        &t.index.dirty,
+        t.links.count,
+        t.slots.used,
+        t.slots.frees,
+        t.pending.count,
+        t.index.frees,
+        t.index.queued,
+        t.index.used,
+    );
+    let v = tree_state::check(Verdict::Accepted, sound, Refusal::Unsound);
     let Verdict::Accepted = v else {
         return v;
     };

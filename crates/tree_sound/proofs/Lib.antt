@@ -3,3 +3,4 @@ pub mod Counts
 pub mod Whole
 pub mod Exact
 pub mod Examples
+pub mod Used

@@ -27,20 +27,21 @@ fn owned_right<'a>(
     (live[x] > 0) & (committed[x] & (slot[x] == k))
 }
 
-// Inner: all 512 entries.
+// Inner: the first `used` entries.
 pub fn entries_right<'a>(
     live: &'a [u8; 256],
     committed: &'a [bool; 256],
     slot: &'a [u32; 256],
     mark: &'a [u8; 512],
     payload: &'a [u32; 1024],
+    used: usize,
 ) -> bool
-    requires { ⌜ length (now live) ≡ 256 ⌝ }
-    ensures { λ r. ⌜ r ≡ every 512 (entryAt (now (live .entry)) (now (committed .entry)) (now (slot .entry)) (now (mark .entry)) (now (payload .entry))) ⌝ }
+    requires { ⌜ (length (now live) ≡ 256) × (used ≤ 512) ⌝ }
+    ensures { λ r. ⌜ r ≡ every used (entryAt (now (live .entry)) (now (committed .entry)) (now (slot .entry)) (now (mark .entry)) (now (payload .entry))) ⌝ }
 {
     let mut ok = true;
     let mut k = 0;
-    while k < 512 {
+    while k < used {
         let id = id_at(payload, k);
         let owned = owned_right(live, committed, slot, id.0, k as u32);
         let m = mark[k];
@@ -57,13 +58,14 @@ fn unit(b: bool) -> usize
     if b { 1 } else { 0 }
 }
 
-// How many entries are marked removed.
-pub fn count_removed(mark: &[u8; 512]) -> usize
-    ensures { λ r. ⌜ (r ≤ 512) × (r ≡ countBelow 512 (λ k. leb 4 (getD (now (mark .entry)) k 0))) ⌝ }
+// Inner: how many of the first `used` entries are marked removed.
+pub fn count_removed(mark: &[u8; 512], used: usize) -> usize
+    requires { ⌜ used ≤ 512 ⌝ }
+    ensures { λ r. ⌜ (r ≤ 512) × (r ≡ countBelow used (λ k. leb 4 (getD (now (mark .entry)) k 0))) ⌝ }
 {
     let mut count = 0;
     let mut k = 0;
-    while k < 512 {
+    while k < used {
         count = count + unit(mark[k] >= 4);
         k += 1;
     }

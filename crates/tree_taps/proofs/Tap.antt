@@ -1,15 +1,17 @@
 -- The tap over the tables is the tree's; and the loop over the entries that keeps the strongest.
 use mathlib.Core.Path.{_≡_, refl, sym, ap, _∙_}
-use mathlib.Core.Bool.{Bool, true, false, _&&_, cond}
+use mathlib.Core.Bool.{Bool, true, false, not, _&&_, cond}
 use mathlib.Core.List.{List, [], _∷_, _++_, map, map-append, append-nil}
-use Prim.Native.Nat.{ℕ, _+_, _<_}
+use Prim.Native.Nat.{ℕ, zero, suc, _+_, _≤_, _<_}
 use native.Mathlib.Omega.{arith}
 use borrow.Author.Tests.{ne-eqb, eqb-false, ltb-true}
 use lib.Dec.{eqb}
+use lib.ListN.{getD}
 use Rattle.counting.proofs.Kit.{contra}
 use Rattle.geometry.specs.declared.point.Point.{Point}
 use Rattle.boxes.specs.declared.Aabb2D.{Aabb2D}
-use Rattle.boxes.specs.Boxes.{aabb}
+use Rattle.boxes.specs.Boxes.{aabb, overlaps}
+use Rattle.cells.specs.Cells.{boxAt}
 use Rattle.box_types.specs.declared.NodeFlags.{NodeFlags}
 use Rattle.index_query.specs.Query.{visits, slots}
 use Rattle.index_query.proofs.Visits.{slots-next, point-slots}
@@ -20,8 +22,14 @@ use Rattle.tree_state.specs.Sound.{everyOf}
 use Rattle.tree_steps.specs.Commit.{ancestors}
 use Rattle.tree_steps.specs.Requests.{Best, nobody, best, keepOf, payloads, inStoredClips, fine, stronger, next, strongest, hitNode, pathTo}
 use Rattle.tree_nodes.proofs.Nodes.{Held}
-use Rattle.tree_listings.proofs.Entries.{nodeOf, keep-slots, carries-live, visits-used}
-use Rattle.tree_taps.specs.Taps.{Shown, clipHolds, reaches, fineAt, strongerAt, bestOf, kept, pathAt}
+use Rattle.tree_sound.specs.Parts.{Sized}
+use Rattle.tree_need.proofs.Walks.{sound-places, sound-used}
+use Rattle.tree_listings.proofs.Entries.{nodeOf, keep-slots, carries-live}
+use Rattle.tree_taps.specs.Taps.{Shown, Tappable, clipHolds, reaches, fineAt, strongerAt, bestOf, kept, pathAt}
+
+unseen : (p m o : Bool) → m ≡ false → p && (m && o) ≡ false
+unseen true m o e = rw e
+unseen false m o e = refl
 
 -- ---- over the tables
 
@@ -129,11 +137,31 @@ module _ (t : Tree) where
     tap-turn b b' k true false ev ew eb s T = rw eb (tap-unfit b k (sym ev) (sym ew) T)
     tap-turn b b' k true true ev ew eb s T = tap-take b b' k (sym ev) (sym ew) (s refl) eb T
 
-  -- a visited entry's node is shown
-  pub visited-shown : Held t → needsCommit t ≡ false → (here : Aabb2D) (k : ℕ) → k < 512 → visits (t .index .backend .present) (t .index .backend .boxes) (t .index .mark) here k ≡ true → Shown (t .links .order) (t .links .count) (nodeOf t k)
-  visited-shown H q here k h e =
-      let l = carries-live t H q k h (visits-used (t .index .backend .present) (t .index .backend .boxes) (t .index .mark) here k e) in
-      (H .low (nodeOf t k) l, ltb-true (placeOf t (nodeOf t k)) (t .links .count) l)
+    -- nothing is visited beyond what is used
+    pub tap-beyond : (b u d : ℕ) → ((k : ℕ) → u ≤ k → getD (t .index .mark) k 0 ≡ 0) → Tapping b u → Tapping b (u + d)
+    tap-beyond b u zero h T = let e : u + 0 ≡ u = omega arith in rw e T
+    tap-beyond b u (suc d) h T =
+        let x = u + d in
+        let e : u + suc d ≡ x + 1 = omega arith in
+        rw e
+        (tap-unvisited b x
+        (unseen (not (eqb (getD (t .index .backend .present) x 0) 0)) (not (eqb (getD (t .index .mark) x 0) 0)) (overlaps (boxAt (t .index .backend .boxes) x) here) (rw (h x (omega arith))))
+        (tap-beyond b u d h T))
+
+  -- every sound tree that needs no commit may be tapped
+  pub tappable : Sized t → Held t → needsCommit t ≡ false → Tappable (t .links .order) (t .links .depth) (t .links .count) (t .index .mark) (t .index .payload) (t .index .used)
+  tappable s H q =
+      let p = sound-places t s (H .test) in
+      let u = sound-used t s (H .test) in
+      record {
+        fits = p .0;
+        orders = p .1;
+        depths = s .depth;
+        low = p .2;
+        used-fits = u .0;
+        beyond = u .1;
+        carried = λ k h n. let l = carries-live t H q k h n in (H .low (nodeOf t k) l, ltb-true (placeOf t (nodeOf t k)) (t .links .count) l);
+      }
 
   pub tap-ends : (asked : NodeFlags) (pt : Point) (b : ℕ) → Tapping asked pt (aabb (pt .x) (pt .y) (pt .x) (pt .y)) b 512 → bestOf b ≡ hitNode t asked pt
   unfolding hitNode pointSlots

@@ -1,7 +1,8 @@
 -- What a tap answers, by its verdict; and `fine`, `stronger` and `pathTo` over the tables that a function is lent.
+use mathlib.Core.Path.{_≡_}
 use mathlib.Core.Bool.{Bool, _&&_, _||_, cond}
 use mathlib.Core.List.{List, _∷_, reverse, map}
-use Prim.Native.Nat.{ℕ, _<_}
+use Prim.Native.Nat.{ℕ, _≤_, _<_}
 use lib.Dec.{eqb, ltb}
 use lib.ListN.{length, getD, take}
 use lib.IntN.{ℤ, pos}
@@ -22,6 +23,8 @@ use Rattle.tree_state.specs.declared.Verdict.the-variants as is
 use Rattle.tree_state.specs.Tree.{numberOf, idAt}
 use Rattle.tree_state.specs.Sound.{everyOf}
 use Rattle.tree_steps.specs.Requests.{Best, nobody, best, pathTo}
+use Rattle.tree_sound.specs.Parts.{Low}
+use Rattle.tree_listings.specs.Listings.{carriedBy}
 use Rattle.tree_taps.specs.declared.Tapped.{Tapped}
 use Rattle.tree_taps.specs.declared.Tapped.the-variants as tapped
 
@@ -88,3 +91,42 @@ idIn generation x = record { 0 = x; 1 = getD generation x 0 }
 -- from the root down to x, which stands at the place i
 unfoldable pub pathAt : List ℕ → List ℕ → List ℕ → ℕ → ℕ → List NodeId
 pathAt order depth generation x i = map (idIn generation) (reverse (x ∷ above order depth i))
+
+-- what a tap over lent tables requires, and every sound tree that needs no commit has: `tappable`. An entry beyond `used` is empty, and any other's
+-- node is shown.
+pub record Tappable (order depth : List ℕ) (n : ℕ) (mark payload : List ℕ) (used : ℕ) : Type 0 where
+  pub fits : n ≤ 256
+  pub orders : length order ≡ 256
+  pub depths : length depth ≡ 256
+  pub low : Low order n
+  pub used-fits : used ≤ 512
+  pub beyond : (k : ℕ) → used ≤ k → getD mark k 0 ≡ 0
+  pub carried : (k : ℕ) → k < 512 → (getD mark k 0 ≡ 0 → ⊥) → Shown order n (carriedBy payload k)
+
+-- the tree whose tables these are, where a tap reads them, and `t`'s where not
+abbrev pub lent : Tree → List ℕ → List Float → List ℕ → List ℕ → List ℕ → List ℤ → List Float → List Float → List ℕ → List Float → List Float → List ℕ → List ℕ → List ℕ → ℕ → ℕ → Tree
+lent t present boxes mark payload flags level bounds slop kind clip transform order depth generation n used =
+    record {
+      slots = record { generation = generation; used = t .slots .used; free = t .slots .free; frees = t .slots .frees };
+      links = record { order = order; depth = depth; count = n };
+      locals = record { bounds = bounds; slop = slop; transform = t .locals .transform; kind = kind; clip = clip; level = level; flags = flags };
+      worlds = record { transform = transform; clipped = t .worlds .clipped; clip = t .worlds .clip; bounds = t .worlds .bounds; «hit_bounds» = t .worlds .«hit_bounds» };
+      marks = t .marks;
+      keys = t .keys;
+      pending = t .pending;
+      index =
+          record {
+            generation = t .index .generation;
+            mark = mark;
+            payload = payload;
+            aabb = t .index .aabb;
+            kept = t .index .kept;
+            prev = t .index .prev;
+            used = used;
+            free = t .index .free;
+            frees = t .index .frees;
+            dirty = t .index .dirty;
+            queued = t .index .queued;
+            backend = record { present = present; boxes = boxes };
+          };
+    }

@@ -5,7 +5,7 @@ ghost use Prim.Native.Nat.{_<_, _≤_};
 ghost use lib.ListN.{length, take};
 ghost use lib.Signed.{ltZ, leZ};
 ghost use Rattle.forest.specs.Table.{depthsFrom};
-ghost use Rattle.tree_state.specs.declared.Verdict.the-variants as is;
+ghost use Rattle.tree_state.specs.declared.Tree.{Tree};
 ghost use Rattle.tree_state.specs.Sound.{everyOf};
 ghost use Rattle.tree_sound.specs.Parts.{Low};
 ghost use Rattle.tree_steps.specs.Requests as request;
@@ -198,49 +198,54 @@ fn keep<'a>(
     best
 }
 
-// The strongest of the candidates, or 256.
-fn strongest(t: Tree, asked: NodeFlags, point: Point, len: usize) -> usize
-    requires { ⌜ request.requestVerdict t asked len ≡ is.Accepted ⌝ }
-    ensures { λ r. ⌜ (spec.bestOf r ≡ request.hitNode t asked point) × ((r ≡ 256 → ⊥) → spec.Shown (t .links .order) (t .links .count) r) ⌝ }
+// Inner: the strongest of the candidates, or 256, on the tree whose tables these are: no test, and no copy of the tree.
+pub fn strongest<'a>(
+    present: &'a [u8; 512],
+    boxes: &'a [f64; 2048],
+    mark: &'a [u8; 512],
+    payload: &'a [u32; 1024],
+    flags: &'a [u8; 256],
+    level: &'a [i32; 256],
+    bounds: &'a [f64; 1024],
+    slop: &'a [f64; 1024],
+    kind: &'a [u8; 256],
+    clip: &'a [f64; 2048],
+    transform: &'a [f64; 1536],
+    order: &'a [u32; 256],
+    depth: &'a [u32; 256],
+    generation: &'a [u32; 256],
+    n: usize,
+    used: usize,
+    asked: NodeFlags,
+    point: Point,
+) -> usize
+    requires { ⌜ spec.Tappable (now order) (now depth) n (now mark) (now payload) used ⌝ }
+    ensures node { λ r. ⌜ ((t : Tree) → spec.bestOf r ≡ request.hitNode (spec.lent t (now (present .entry)) (now (boxes .entry)) (now (mark .entry)) (now (payload .entry)) (now (flags .entry)) (now (level .entry)) (now (bounds .entry)) (now (slop .entry)) (now (kind .entry)) (now (clip .entry)) (now (transform .entry)) (now (order .entry)) (now (depth .entry)) (now (generation .entry)) n used) asked point) ⌝ }
+    ensures shown { λ r. ⌜ ((r ≡ 256 → ⊥) → spec.Shown (now (order .entry)) n r) ⌝ }
 {
     let here = Aabb2D::new(point.x, point.y, point.x, point.y);
     let mut best = 256usize;
     let mut k = 0usize;
-    while k < 512 {
-        let visited = index_query::visited(
-            &t.index.backend.present,
-            &t.index.backend.boxes,
-            &t.index.mark,
-            k,
-            here,
-        );
-        let id = cells::id_at(&t.index.payload, k);
+    while k < used {
+        let visited = index_query::visited(present, boxes, mark, k, here);
+        let id = cells::id_at(payload, k);
         let x = id.0 as usize;
         let take = fine(
             visited,
-            &t.locals.flags,
-            &t.locals.bounds,
-            &t.locals.slop,
-            &t.locals.kind,
-            &t.locals.clip,
-            &t.worlds.transform,
-            &t.links.order,
-            &t.links.depth,
-            t.links.count,
+            flags,
+            bounds,
+            slop,
+            kind,
+            clip,
+            transform,
+            order,
+            depth,
+            n,
             asked,
             point,
             x,
         );
-        best = keep(
-            take,
-            &t.locals.level,
-            &t.links.order,
-            &t.links.depth,
-            t.links.count,
-            &t.slots.generation,
-            best,
-            x,
-        );
+        best = keep(take, level, order, depth, n, generation, best, x);
         k += 1;
     }
     best
@@ -288,7 +293,26 @@ pub fn hit_test_point(t: Tree, point: Point, filter: QueryFilter, room: &mut [u3
     if let Verdict::Refused(r) = v {
         return Tapped::Refused(r);
     }
-    let best = strongest(t, asked, point, len);
+    let best = strongest(
+        &t.index.backend.present,
+        &t.index.backend.boxes,
+        &t.index.mark,
+        &t.index.payload,
+        &t.locals.flags,
+        &t.locals.level,
+        &t.locals.bounds,
+        &t.locals.slop,
+        &t.locals.kind,
+        &t.locals.clip,
+        &t.worlds.transform,
+        &t.links.order,
+        &t.links.depth,
+        &t.slots.generation,
+        t.links.count,
+        t.index.used,
+        asked,
+        point,
+    );
     if best == 256 { // nobody
         return Tapped::Nothing;
     }

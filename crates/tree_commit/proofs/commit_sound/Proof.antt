@@ -1,50 +1,152 @@
-use mathlib.Core.Path.{sym, _∙_}
+-- `tree_commit::commit_sound` meets its contract: from call to call, the tree that the tables make up. Assumes nothing.
+use mathlib.Core.Path.{_≡_, refl, sym, ap, _∙_}
+use mathlib.Core.List.{List}
+use Prim.Native.Nat.{ℕ}
+use native.Mathlib.Omega.{arith}
+use lib.ListN.{length}
+use lib.Ieee.{Float}
 use borrow.Author.Needs.{needs}
 use borrow.Author.Tests.{not-true, not-false}
-use Rattle.tree_work.proofs.Lengths.{whole}
-use Rattle.tree_work.proofs.Places.{sound-of}
-use Rattle.tree_commit.proofs.Call.{finish-ready, clean, committed}
+use Rattle.tree_state.specs.Tree.{needsCommit}
+use Rattle.tree_state.specs.Sound.{SoundTree}
+use Rattle.tree_laws.proofs.Whole.{Whole, sized}
+use Rattle.tree_laws.proofs.Ground.{linked}
+use Rattle.tree_need.proofs.Walks.{sound-places, sound-used}
+use Rattle.tree_steps.specs.Commit.{begun, reworkAll, rectsInFront}
+use Rattle.keep_commit.proofs.Sizes.{length-rects}
+use Rattle.tree_commit.proofs.Lengths.{whole}
+use Rattle.tree_commit.proofs.Call.{sound-of, places-few, places-are, places-ready, front-same, finish-ready, clean, joined}
 use Rattle.tree_commit.proofs.commit_sound.Statement.{statement}
 use Rattle.tree_commit.proofs.commit_sound.Tie as tie
 
-needs-commit-requires : tie.Need-needs-commit-requires
-needs-commit-requires c κs = c .before .pre .0
+-- from each call back to the one before
+abbrev begins : tie.After-needs → tie.Start
+begins c = c .before .before .before .before .before .before .before .before .before .before .before .before .before .before .before .before .before .before .before .before .before .before .before .before .before .before .before .before .before .before .before .before .before .before .before .before
+
+abbrev from-pending : tie.After-put-pending → tie.Else1
+from-pending c = c .before .before .before .before
+
+abbrev from-places : tie.After-places → tie.After-put-pending
+from-places c = c .before .before .before .before .before .before .before .before .before .before .before .before
+
+abbrev from-rework : tie.After-rework-all → tie.After-places
+from-rework c = c .before .before .before .before .before .before .before .before .before .before .before .before .before .before .before .before .before .before .before .before .before .before .before .before .before .before .before .before .before .before
+
+abbrev from-index : tie.After-commit-index → tie.After-rework-all
+from-index c = c .before .before .before .before .before .before .before .before .before .before .before
+
+-- what the tree is known to be
+whole-here : (S : tie.Start) → Whole (S .args .t)
+whole-here S = whole (S .args .t) (S .good .0)
+
+sound-here : (S : tie.Start) → SoundTree (S .args .t)
+sound-here S = sound-of (S .args .t) (whole-here S) (S .pre .0)
+
+pending-count : (S : tie.Start) → let p = S .args .t .pending in p .count ≡ length (begun (S .args .t) .damage)
+pending-count S = sym (length-rects (S .args .t .pending .rects) (S .args .t .pending .count))
+
+needs-requires : tie.Need-needs-requires
+needs-requires c κs =
+    let S = c .before .before .before .before .before .before .before .before .before .before .before .before .before .before .before .before .before .before .before .before .before .before .before .before .before .before .before .before .before .before .before .before .before .before .before in
+    let t = S .args .t in
+    let z = sized t (whole-here S) in
+    let p = sound-places t z (S .pre .0) in
+    let u = sound-used t z (S .pre .0) in
+    (p .0, p .1, p .2, u .0, u .1)
+
+-- the test is the definition's
+told : (c : tie.After-needs) → c .needs .result ≡ needsCommit (begins c .args .t)
+unfolding needsCommit
+told c = c .needs .ensures
 
 returns : tie.Need-returns
 returns c =
     let N = c .before in
-    let A = N .before .before .args in
-    clean (A .t) (A .room .now) (sym (N .needs-commit .ensures) ∙ not-true (N .needs-commit .result) (c .if1 .taken))
+    let A = begins N .args in
+    clean (A .t) (A .room .now) (sym (told N) ∙ not-true (N .needs .result) (c .if1 .taken))
 
-rework-tree-requires : tie.Need-rework-tree-requires
-rework-tree-requires c κs = c .before .before .before .before .pre
+put-pending-requires : tie.Need-put-pending-requires
+put-pending-requires c κs = let S = begins (c .before .before .before .before) in (sound-here S .pending-fits, S .pre .1, whole-here S .pending)
 
-finish-requires : tie.Need-finish-requires
-finish-requires c κs =
-    let R = c .before .before .before in
-    let S = R .before .before .before .before .before in
-    let W = whole (S .args .t) (S .good .0) in
-    finish-ready (S .args .t) _ W (sound-of (S .args .t) W (S .pre .0)) (R .rework-tree .ensures .0)
+places-requires : tie.Need-places-requires
+places-requires c κs =
+    let S = begins (from-pending (c .before .before .before .before .before .before .before .before .before .before .before) .before) in
+    (whole-here S .slots .generation, whole-here S .marks .marked, refl, linked (S .args .t) (whole-here S) (sound-here S))
+
+-- the room with the pending rectangles is as long
+as-long : (c : tie.After-put-pending) → let S = begins (from-pending c .before) in (room : List Float) → room ≡ rectsInFront (begun (S .args .t) .damage) (S .args .room .now) → length room ≡ length (S .args .room .now)
+as-long c room e =
+    let S = begins (from-pending c .before) in
+    front-same (begun (S .args .t) .damage) (S .args .room .now) room e (omega (arith, pending-count S, sound-here S .pending-fits, S .pre .1))
+
+rework-all-requires : tie.Need-rework-all-requires
+rework-all-requires c κs =
+    let P = c .before .before .before .before .before .before .before .before .before .before .before .before .before .before .before .before .before .before .before .before .before .before .before .before .before .before .before .before .before in
+    let D = from-places P in
+    let S = begins (from-pending D .before) in
+    let t = S .args .t in
+    let W = whole-here S in
+    let E = P .places .ensures in (
+      places-few t _ _ _ (E .0) (E .1),
+      E .0 .0,
+      W .links .order,
+      W .links .depth,
+      W .index .dirty,
+      omega (arith, S .pre .1, as-long D _ (D .put-pending .ensures)),
+      (t, begun t .damage, pending-count S, places-ready t _ _ _ (E .0) (E .1) W (sound-here S)),
+    )
+
+commit-index-requires : tie.Need-commit-index-requires
+commit-index-requires c κs =
+    let R = c .before .before .before .before .before .before .before .before .before .before in
+    let P = from-rework R in
+    let S = begins (from-pending (from-places P) .before) in
+    let t = S .args .t in
+    let E = P .places .ensures in
+    let X = R .rework-all .ensures .0 t (begun t .damage) ∙ ap (λ (l : List ℕ). reworkAll (begun t) l .tree) (places-are t _ _ _ (E .0) (E .1)) in
+    let F = finish-ready t _ (whole-here S) (sound-here S) X in
+    (F .0 .mark, F .0 .free, F .0 .dirty, (_, F .1))
+
+clear-marks-requires : tie.Need-clear-marks-requires
+clear-marks-requires c κs = search needs
 
 same-length : tie.Need-same-length
-same-length c = search needs
+same-length c =
+    let R = from-index (c .before .before .before .before .before) in
+    let D = from-places (from-rework R) in
+    R .rework-all .ensures .1 .1 .1 .1 ∙ as-long D _ (D .put-pending .ensures)
 
 returns-2 : tie.Need-returns-2
 returns-2 c =
-    let R = c .before .before .before .before in
-    let I = R .before .before in
+    let M = c .before in
+    let C = M .before .before .before .before in
+    let R = from-index C in
+    let P = from-rework R in
+    let D = from-places P in
+    let I = from-pending D in
     let N = I .before in
-    let A = N .before .before .args in
-    let E = R .rework-tree .ensures in
-    committed (A .t) _ _ _ (A .room .now) _ (sym (N .needs-commit .ensures) ∙ not-false (N .needs-commit .result) (I .if1 .left)) (E .0) (E .1 .0) (c .finish .ensures) (E .1 .1)
+    let S = begins N in
+    let t = S .args .t in
+    let ds = begun t .damage in
+    let E = P .places .ensures in
+    let v = places-are t _ _ _ (E .0) (E .1) in
+    let X = R .rework-all .ensures in
+    joined t _ _ _ _ _ _ _ _ _ _ _ (S .args .room .now) _ (sym (told N) ∙ not-false (N .needs .result) (I .if1 .left))
+    (X .0 t ds ∙ ap (λ (l : List ℕ). reworkAll (begun t) l .tree) v)
+    (X .1 .0 t ds (pending-count S) ∙ ap (λ (l : List ℕ). length (reworkAll (begun t) l .damage)) v)
+    (C .commit-index .ensures) (M .clear-marks .ensures)
+    (X .1 .1 .0 t ds (S .args .room .now) (pending-count S) (D .put-pending .ensures) ∙ ap (λ (l : List ℕ). rectsInFront (reworkAll (begun t) l .damage) (S .args .room .now)) v)
 
 pub commit-sound-spec : {M : Type 1} → statement M
 commit-sound-spec =
     tie.close
     (tie.spec
-    needs-commit-requires
+    needs-requires
     returns
-    rework-tree-requires
-    finish-requires
+    put-pending-requires
+    places-requires
+    rework-all-requires
+    commit-index-requires
+    clear-marks-requires
     same-length
     returns-2)

@@ -9,10 +9,10 @@ use Rattle.tree_need.proofs.any_removed.Statement.{statement}
 use Rattle.tree_need.proofs.any_removed.Tie as tie
 
 abbrev Inv-loop : tie.InvT-loop
-Inv-loop mark found₀ k₀ found k = (k ≤ 512) × (found ≡ some k (λ y. isRemoved (getD mark y 0)))
+Inv-loop mark used found₀ k₀ found k = (k ≤ used) × (found ≡ some k (λ y. isRemoved (getD mark y 0)))
 
 abbrev μ-loop : tie.MeasureT-loop
-μ-loop mark found₀ k₀ found k = 512 - k
+μ-loop mark used found₀ k₀ found k = used - k
 
 loop-holds : tie.Need-loop-holds Inv-loop μ-loop
 unfolding some
@@ -34,7 +34,7 @@ loop-again c =
     (omega arith, rw (some-more (λ y. isRemoved (getD (A .mark .now) y 0)) (L .k), ← L .inv .1))
 
 returns : tie.Need-returns Inv-loop μ-loop
-returns c = let L = c .before .loop in let e : L .k ≡ 512 = omega arith in rw (← e) (L .inv .1)
+returns c = let L = c .before .loop in let e : L .k ≡ c .before .before .args .used = omega arith in rw (← e) (L .inv .1)
 
 pub any-removed-spec : {M : Type 1} → statement M
 any-removed-spec =

@@ -1,13 +1,13 @@
 use native.Mathlib.Omega.{arith}
-use mathlib.Core.Path.{_≡_, sym, _∙_}
+use mathlib.Core.Path.{_≡_, sym, ap, _∙_}
 use lib.ListN.{length}
 use Rattle.tree_state.specs.declared.Verdict.the-variants as is
 use Rattle.tree_steps.specs.Requests.{requestVerdict, hitNode, best}
 use Rattle.tree_nodes.proofs.Lengths.{sized}
 use Rattle.tree_need.proofs.Walks.{sound-places}
 use Rattle.tree_listings.proofs.Entries.{Accepted, accepted}
-use Rattle.tree_taps.specs.Taps.{Shown}
-use Rattle.tree_taps.proofs.Tap.{best-none, best-some, path-at}
+use Rattle.tree_taps.specs.Taps.{Shown, bestOf}
+use Rattle.tree_taps.proofs.Tap.{best-none, best-some, path-at, tappable}
 use Rattle.tree_taps.proofs.Answers.{refused, nothing, hit}
 use borrow.Author.Needs.{needs}
 use Rattle.tree_taps.proofs.hit_test_point.Statement.{statement}
@@ -39,20 +39,30 @@ took c =
     let A = s .args in
     accepted (A .t1) (sized (A .t1) (s .good .0)) (A .filter .«required_flags») (length (A .room .now)) (yes c)
 
+-- before the tables are lent
+abbrev from : tie.After-strongest → tie.After-enum-told
+from c = c .before .before .before .before .before .before .before .before .before .before .before .before .before .before .before .before
+
 strongest-requires : tie.Need-strongest-requires
-strongest-requires c κs = yes c
+strongest-requires c κs =
+    let e = c .before .before .before .before .before .before .before .before .before .before .before .before .before .before .before in
+    let s = e .before .before .before .before .before in
+    tappable (s .args .t1) (sized (s .args .t1) (s .good .0)) (took e .whole) (took e .no-need)
+
+-- the answer, on the tree itself
+told : (c : tie.After-strongest) → let A = (from c) .before .before .before .before .before .args in bestOf (c .strongest .result) ≡ hitNode (A .t1) (A .filter .«required_flags») (A .point)
+told c = c .strongest .ensures .0 ((from c) .before .before .before .before .before .args .t1)
 
 returns-2 : tie.Need-returns-2
 returns-2 c =
-    let e = c .before .before in
+    let e = from (c .before) in
     let A = e .before .before .before .before .before .args in
     let asked = A .filter .«required_flags» in
-    let S = c .before .strongest in
-    let n = rw (c .if1 .taken) at (S .ensures .0) in
+    let n = sym (ap bestOf (c .if1 .taken)) ∙ told (c .before) in
     nothing (requestVerdict (A .t1) asked (length (A .room .now))) (A .t1) (hitNode (A .t1) asked (A .point)) (A .room .now) (yes e) (sym n ∙ best-none (A .t1))
 
 -- the best is shown
-shown : (c : tie.Else1) → let A = c .before .before .before .before .before .before .before .args in Shown (A .t1 .links .order) (A .t1 .links .count) (c .before .strongest .result)
+shown : (c : tie.Else1) → let A = (from (c .before)) .before .before .before .before .before .args in Shown (A .t1 .links .order) (A .t1 .links .count) (c .before .strongest .result)
 shown c = c .before .strongest .ensures .1 (c .if1 .left)
 
 cast-x : tie.Need-cast-x
@@ -60,7 +70,7 @@ cast-x c = omega (arith, shown c .0)
 
 position-requires : tie.Need-position-requires
 position-requires c κs =
-    let e = c .before .before .before .before in
+    let e = from (c .before .before .before) in
     let s = e .before .before .before .before .before in
     let p = sound-places (s .args .t1) (sized (s .args .t1) (s .good .0)) (took e .whole .test) in
     (p .0, p .1)
@@ -71,7 +81,7 @@ id-of-requires c κs = shown (c .before .before .before .before .before) .0
 write-path-requires : tie.Need-write-path-requires
 write-path-requires c κs =
     let y = c .before .before .before .before .before .before .before .before .before .before .before in
-    let e = y .before .before in
+    let e = from (y .before) in
     let s = e .before .before .before .before .before in
     let z = sized (s .args .t1) (s .good .0) in
     let p = sound-places (s .args .t1) z (took e .whole .test) in
@@ -84,7 +94,7 @@ same-length c = search needs
 returns-3 : tie.Need-returns-3
 returns-3 c =
     let y = c .before .before .before .before .before .before .before .before .before .before .before .before .before .before in
-    let e = y .before .before in
+    let e = from (y .before) in
     let A = e .before .before .before .before .before .args in
     let asked = A .filter .«required_flags» in
     let S = y .before .strongest in
@@ -92,7 +102,7 @@ returns-3 c =
     let x = S .result in
     let at = c .before .before .before .before .before .before .before .before .before .before .before .position .ensures .1 in
     let E = rw (at, ← path-at (A .t1) x) at (W .ensures) in
-    hit (requestVerdict (A .t1) asked (length (A .room .now))) (A .t1) (hitNode (A .t1) asked (A .point)) (A .room .now) x _ _ _ (yes e) (sym (S .ensures .0) ∙ best-some (A .t1) x (y .if1 .left)) (c .before .before .before .before .before .before .before .before .id-of .ensures) (E .0) (E .1)
+    hit (requestVerdict (A .t1) asked (length (A .room .now))) (A .t1) (hitNode (A .t1) asked (A .point)) (A .room .now) x _ _ _ (yes e) (sym (told (y .before)) ∙ best-some (A .t1) x (y .if1 .left)) (c .before .before .before .before .before .before .before .before .id-of .ensures) (E .0) (E .1)
 
 pub hit-test-point-spec : {M : Type 1} → statement M
 hit-test-point-spec =

@@ -10,10 +10,10 @@ use Rattle.tree_sound.proofs.entries.count_removed.Statement.{statement
 use Rattle.tree_sound.proofs.entries.count_removed.Tie as tie
 
 abbrev Inv-loop : tie.InvT-loop
-Inv-loop mark count₀ k₀ count k = (k ≤ 512) × (count ≤ k) × (count ≡ countBelow k (λ y. leb 4 (getD mark y 0)))
+Inv-loop mark used count₀ k₀ count k = (k ≤ used) × (count ≤ k) × (count ≡ countBelow k (λ y. leb 4 (getD mark y 0)))
 
 abbrev μ-loop : tie.MeasureT-loop
-μ-loop mark count₀ k₀ count k = 512 - k
+μ-loop mark used count₀ k₀ count k = used - k
 
 loop-holds : tie.Need-loop-holds Inv-loop μ-loop
 unfolding countBelow
@@ -38,7 +38,7 @@ loop-again : tie.Need-loop-again Inv-loop μ-loop
 loop-again c = let L = c .before .before .before .loop in let A = c .before .before .before .before .args in (omega arith, omega (arith, c .unit .ensures .1), rw (below-more (λ y. leb 4 (getD (A .mark .now) y 0)) (L .k), ← L .inv .2, c .unit .ensures .0))
 
 returns : tie.Need-returns Inv-loop μ-loop
-returns c = let L = c .before .loop in let e : L .k ≡ 512 = omega arith in (omega arith, rw (← e) (L .inv .2))
+returns c = let L = c .before .loop in let e : L .k ≡ c .before .before .args .used = omega arith in (omega arith, rw (← e) (L .inv .2))
 
 pub count-removed-spec : {M : Type 1} → statement M
 count-removed-spec =

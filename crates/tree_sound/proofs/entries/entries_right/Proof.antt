@@ -9,10 +9,10 @@ use Rattle.tree_sound.proofs.entries.entries_right.Statement.{statement
 use Rattle.tree_sound.proofs.entries.entries_right.Tie as tie
 
 abbrev Inv-loop : tie.InvT-loop
-Inv-loop live committed slot mark payload ok₀ k₀ ok k = (k ≤ 512) × (ok ≡ every k (entryAt live committed slot mark payload))
+Inv-loop live committed slot mark payload used ok₀ k₀ ok k = (k ≤ used) × (ok ≡ every k (entryAt live committed slot mark payload))
 
 abbrev μ-loop : tie.MeasureT-loop
-μ-loop live committed slot mark payload ok₀ k₀ ok k = 512 - k
+μ-loop live committed slot mark payload used ok₀ k₀ ok k = used - k
 
 loop-holds : tie.Need-loop-holds Inv-loop μ-loop
 unfolding every
@@ -41,7 +41,7 @@ unfolding entryAt
 loop-again c = let L = c .before .before .before .before .loop in let A = c .before .before .before .before .before .args in (omega arith, rw (every-next (L .k) (entryAt (A .live .now) (A .committed .now) (A .slot .now) (A .mark .now) (A .payload .now)), ← L .inv .1, c .before .owned-right .ensures, c .before .before .id-at .ensures))
 
 returns : tie.Need-returns Inv-loop μ-loop
-returns c = let L = c .before .loop in let e : L .k ≡ 512 = omega arith in rw (← e) (L .inv .1)
+returns c = let L = c .before .loop in let e : L .k ≡ c .before .before .args .used = omega arith in rw (← e) (L .inv .1)
 
 pub entries-right-spec : {M : Type 1} → statement M
 entries-right-spec =
