@@ -120,7 +120,7 @@ pub pinned : (told [] (call.insert node.None (rec (rect nan fl.zero fl.zero fl.z
     × (constructed (is.Rounded fl.zero fl.zero (num 10) (num 10) fl.zero (num 5) fl.zero fl.zero) ≡ is.Rounded fl.zero fl.zero (num 10) (num 10) fl.zero (num 5) fl.zero fl.zero)  -- one radius is enough
     × (needs (call.insert node.None (local 10 (is.Square fl.zero fl.zero (num 10) (num 10)) (pos 0)) ∷ settle ∷ call.set-local-clip a rounded5 ∷ []) ≡ true)  -- radii count
     × (needs (call.insert node.None (local 10 (is.Square fl.zero fl.zero (num 10) (num 10)) (pos 0)) ∷ settle ∷ call.set-local-clip a is.None ∷ []) ≡ true)  -- none over a clip
-unfolding num point id local ten turn shifted grown root child settle after next listing needs told tapped a b c run step refusal lowest accepted inserted removed moved committed needsCommit starts visits enter keep any joined upTo insertSorted sorted pre post has cat under remove roots spot hasAll finiteLocal stored finiteRect finiteInsets finiteAffine finiteClip finiteClipRect affineEq rectEq insetsEq clipEq clipRectEq constructed clipRect clipRadii fitted shaped quadrant excess insideRounded inside ordered intersection contains plusInsets noInsets mapped product inverse transformRectBbox containsPoint overlaps image meetOwn meet clipped placed worldBox hitBox reached placedOn worldBounds worldHitBounds inClips candidate larger largest tap meetsRect meetsPoint inEntryOrder listRect listPoint redactLocal redact minimum maximum magnitude round units odd size span climb neg add sub mul div eq le lt isNan gone twice whole big small rec node-with roots-of scaled rounded5 outcome outcomes answer 
+unfolding num point id local ten turn shifted grown root child settle after next listing needs told tapped a b c run step refusal lowest accepted inserted removed moved committed needsCommit starts visits enter keep any joined upTo insertSorted sorted pre post has cat under remove roots spot hasAll finiteLocal stored finiteRect finiteInsets finiteAffine finiteClip finiteClipRect affineEq rectEq insetsEq clipEq clipRectEq constructed clipRect clipRadii fitted shaped quadrant excess insideRounded inside ordered intersection contains plusInsets noInsets mapped product inverse transformRectBbox containsPoint overlaps image meetOwn meet clipped placed worldBox hitBox reached placedOn worldBounds worldHitBounds inClips candidate larger largest tap meetsRect meetsPoint inEntryOrder listRect listPoint redactLocal redact minimum maximum magnitude round units odd size span climb neg add sub mul div eq le lt isNan gone twice whole big small rec node-with roots-of scaled rounded5 outcome outcomes answer
 pinned = (refl, refl, refl, refl, refl, refl, refl, refl, refl, refl, refl, refl, refl, refl, refl, refl, refl, refl, refl, refl, refl, refl, refl, refl, refl, refl, refl, refl, refl, refl, refl, refl, refl, refl, refl, refl, refl, refl, refl, refl, refl, refl, refl, refl, refl, refl, refl, refl, refl, refl, refl, refl, refl, refl, refl, refl, refl, refl, refl, refl, refl, refl, refl, refl, refl, refl, refl, refl, refl, refl, refl, refl, refl, refl, refl, refl, refl, refl, refl)
 
 pub pinned-2 : (mapped (record { a = fl.one; b = fl.one; c = fl.one; d = fl.one; e = fin true 1 (pos 53); f = fin true 1 (pos 53) }) (record { x = fl.one; y = fin false 1 (pos 53) }) ≡ record { x = fl.zero; y = fl.zero })  -- left to right: (1 + 2^53) − 2^53
@@ -138,5 +138,5 @@ pub pinned-2 : (mapped (record { a = fl.one; b = fl.one; c = fl.one; d = fl.one;
     × (after (root ∷ settle ∷ call.set-local-bounds a (whole 9) ∷ []) .mark 0 ≡ record { marked = true; transform = false; clip = false })  -- in neither
     × (alsoAsking (alsoAsking (asking 0) 1) 4 ≡ asking 5)  -- visible and focusable
     × (defaultLocal ≡ rec (whole 0) noInset identity is.None (pos 0) 3)  -- defaults
-unfolding num point id local ten turn shifted grown root child settle after next listing needs told tapped a b c run step refusal lowest accepted inserted removed moved committed needsCommit starts visits enter keep any joined upTo insertSorted sorted pre post has cat under remove roots spot hasAll finiteLocal stored finiteRect finiteInsets finiteAffine finiteClip finiteClipRect affineEq rectEq insetsEq clipEq clipRectEq constructed clipRect clipRadii fitted shaped quadrant excess insideRounded inside ordered intersection contains plusInsets noInsets mapped product inverse transformRectBbox containsPoint overlaps image meetOwn meet clipped placed worldBox hitBox reached placedOn worldBounds worldHitBounds inClips candidate larger largest tap meetsRect meetsPoint inEntryOrder listRect listPoint redactLocal redact minimum maximum magnitude round units odd size span climb neg add sub mul div eq le lt isNan gone twice whole big small rec node-with roots-of scaled rounded5 outcome outcomes answer 
+unfolding num point id local ten turn shifted grown root child settle after next listing needs told tapped a b c run step refusal lowest accepted inserted removed moved committed needsCommit starts visits enter keep any joined upTo insertSorted sorted pre post has cat under remove roots spot hasAll finiteLocal stored finiteRect finiteInsets finiteAffine finiteClip finiteClipRect affineEq rectEq insetsEq clipEq clipRectEq constructed clipRect clipRadii fitted shaped quadrant excess insideRounded inside ordered intersection contains plusInsets noInsets mapped product inverse transformRectBbox containsPoint overlaps image meetOwn meet clipped placed worldBox hitBox reached placedOn worldBounds worldHitBounds inClips candidate larger largest tap meetsRect meetsPoint inEntryOrder listRect listPoint redactLocal redact minimum maximum magnitude round units odd size span climb neg add sub mul div eq le lt isNan gone twice whole big small rec node-with roots-of scaled rounded5 outcome outcomes answer
 pinned-2 = (refl, refl, refl, refl, refl, refl, refl, refl, refl, refl, refl, refl, refl, refl, refl)

@@ -228,8 +228,8 @@ module _ (t : Tree) (asked : NodeFlags) (room : List ℕ) where
   abbrev v : Verdict
   v = request.requestVerdict t asked (length room)
 
-  pub intersect-tells : (r : Rect) → let l = request.rectNodes t asked r in
-      listingTold (listing.listedIf v l) (listing.roomIf v l room) ≡ tree.answer t asked (length room) (call.intersect-rect r)
+  pub intersect-tells : (r : Rect)
+      → listingTold (listing.intersectCall t asked r (length room)) (listing.intersectRoom t asked r room) ≡ tree.answer t asked (length room) (call.intersect-rect r)
   unfolding tree.answer
   intersect-tells r = listing-tells v (request.rectNodes t asked r) room ∙ go v
     where
@@ -237,8 +237,8 @@ module _ (t : Tree) (asked : NodeFlags) (room : List ℕ) where
       go is.Accepted = refl
       go (is.Refused q) = refl
 
-  pub containing-tells : (pt : Point) → let l = request.pointNodes t asked pt in
-      listingTold (listing.listedIf v l) (listing.roomIf v l room) ≡ tree.answer t asked (length room) (call.containing-point pt)
+  pub containing-tells : (pt : Point)
+      → listingTold (listing.containingCall t asked pt (length room)) (listing.containingRoom t asked pt room) ≡ tree.answer t asked (length room) (call.containing-point pt)
   unfolding tree.answer
   containing-tells pt = listing-tells v (request.pointNodes t asked pt) room ∙ go v
     where
@@ -247,8 +247,7 @@ module _ (t : Tree) (asked : NodeFlags) (room : List ℕ) where
       go (is.Refused q) = refl
 
   -- ---- taps
-  pub tap-tells : (pt : Point) → let b = request.hitNode t asked pt in
-      tapTold (tap.tappedIf v t b) (listing.roomIf v (request.pathOf t b) room) ≡ tree.answer t asked (length room) (call.hit-test-point pt)
+  pub tap-tells : (pt : Point) → tapTold (tap.tapCall t asked pt (length room)) (tap.tapRoom t asked pt room) ≡ tree.answer t asked (length room) (call.hit-test-point pt)
   unfolding tree.answer tapTold tap.tappedIf listing.roomIf
   tap-tells pt = go v (request.hitNode t asked pt) refl
     where

@@ -5,6 +5,8 @@ use mathlib.Core.List.{List}
 use Prim.Native.Nat.{ℕ, _<_}
 use lib.ListN.{length, getD}
 use lib.Ieee.{Float}
+use Rattle.geometry.specs.declared.point.Point.{Point}
+use Rattle.geometry.specs.declared.rect.Rect.{Rect}
 use Rattle.boxes.specs.declared.Aabb2D.{Aabb2D}
 use Rattle.boxes.specs.declared.NodeId.{NodeId}
 use Rattle.boxes.specs.Boxes.{overlaps}
@@ -14,8 +16,8 @@ use Rattle.box_types.specs.Local.{hasAll, flags, rectToAabb}
 use Rattle.node_tables.specs.Tables.{rectAt}
 use Rattle.tree_state.specs.declared.Verdict.{Verdict}
 use Rattle.tree_state.specs.declared.Verdict.the-variants as is
-use Rattle.tree_state.specs.Tree.{numberOf}
-use Rattle.tree_steps.specs.Requests.{idsInFront}
+use Rattle.tree_state.specs.declared.Tree.{Tree}
+use Rattle.tree_steps.specs.Requests.{idsInFront, requestVerdict, rectNodes, pointNodes}
 use Rattle.tree_listings.specs.declared.Listed.{Listed}
 use Rattle.tree_listings.specs.declared.Listed.the-variants as listed
 
@@ -29,10 +31,19 @@ unfoldable pub roomIf : Verdict → List NodeId → List ℕ → List ℕ
 roomIf is.Accepted l room = idsInFront l room
 roomIf (is.Refused r) l room = room
 
--- document 01's number, 0 where the call is accepted
-unfoldable pub listedNumber : Listed → ℕ
-listedNumber (listed.Nodes n) = 0
-listedNumber (listed.Refused r) = numberOf r
+-- ---- the calls: what each answers, and the room after it
+
+abbrev pub intersectCall : Tree → NodeFlags → Rect → ℕ → Listed
+intersectCall t asked r len = listedIf (requestVerdict t asked len) (rectNodes t asked r)
+
+abbrev pub intersectRoom : Tree → NodeFlags → Rect → List ℕ → List ℕ
+intersectRoom t asked r room = roomIf (requestVerdict t asked (length room)) (rectNodes t asked r) room
+
+abbrev pub containingCall : Tree → NodeFlags → Point → ℕ → Listed
+containingCall t asked pt len = listedIf (requestVerdict t asked len) (pointNodes t asked pt)
+
+abbrev pub containingRoom : Tree → NodeFlags → Point → List ℕ → List ℕ
+containingRoom t asked pt room = roomIf (requestVerdict t asked (length room)) (pointNodes t asked pt) room
 
 -- ---- entries
 

@@ -125,8 +125,8 @@ fn list(t: Tree, rect: Rect, asked: NodeFlags, room: &mut [u32]) -> usize
 
 // The nodes with all asked flags whose hit box and world box meet the rectangle as given, all edges in.
 pub fn intersect_rect(t: Tree, rect: Rect, filter: QueryFilter, room: &mut [u32]) -> Listed
-    ensures answer { λ r. ⌜ r ≡ spec.listedIf (request.requestVerdict t (filter .«required_flags») (length (now (room .entry)))) (request.rectNodes t (filter .«required_flags») rect) ⌝ }
-    ensures rooms { λ _. ⌜ now (room .exit) ≡ spec.roomIf (request.requestVerdict t (filter .«required_flags») (length (now (room .entry)))) (request.rectNodes t (filter .«required_flags») rect) (now (room .entry)) ⌝ }
+    ensures answer { λ r. ⌜ r ≡ spec.intersectCall t (filter .«required_flags») rect (length (now (room .entry))) ⌝ }
+    ensures rooms { λ _. ⌜ now (room .exit) ≡ spec.intersectRoom t (filter .«required_flags») rect (now (room .entry)) ⌝ }
 {
     let asked = filter.required_flags;
     let v = verdict(t, asked, room.len());
@@ -138,8 +138,8 @@ pub fn intersect_rect(t: Tree, rect: Rect, filter: QueryFilter, room: &mut [u32]
 
 // The same of a point: a rectangle of no size.
 pub fn containing_point(t: Tree, point: Point, filter: QueryFilter, room: &mut [u32]) -> Listed
-    ensures answer { λ r. ⌜ r ≡ spec.listedIf (request.requestVerdict t (filter .«required_flags») (length (now (room .entry)))) (request.pointNodes t (filter .«required_flags») point) ⌝ }
-    ensures rooms { λ _. ⌜ now (room .exit) ≡ spec.roomIf (request.requestVerdict t (filter .«required_flags») (length (now (room .entry)))) (request.pointNodes t (filter .«required_flags») point) (now (room .entry)) ⌝ }
+    ensures answer { λ r. ⌜ r ≡ spec.containingCall t (filter .«required_flags») point (length (now (room .entry))) ⌝ }
+    ensures rooms { λ _. ⌜ now (room .exit) ≡ spec.containingRoom t (filter .«required_flags») point (now (room .entry)) ⌝ }
 {
     let rect = Rect {
         x0: point.x,

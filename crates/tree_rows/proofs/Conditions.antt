@@ -57,9 +57,18 @@ treeFrom m = record {
   keys = record { committed = set (replicate 256 false) 0 (m .committed); slot = replicate 256 0; generation = set (replicate 256 0) 0 (m .key) };
   pending = record { rects = freshTree .pending .rects; count = m .pending };
   index = record {
-    generation = set (replicate 512 0) 0 1; mark = set (replicate 512 0) 0 (m .entry); payload = set (replicate 1024 0) 1 (m .carried);
-    aabb = freshIndex .aabb; kept = freshIndex .kept; prev = freshIndex .prev; used = 1; free = freshIndex .free; frees = 0;
-    dirty = freshIndex .dirty; queued = m .queued; backend = freshIndex .backend;
+    generation = set (replicate 512 0) 0 1;
+    mark = set (replicate 512 0) 0 (m .entry);
+    payload = set (replicate 1024 0) 1 (m .carried);
+    aabb = freshIndex .aabb;
+    kept = freshIndex .kept;
+    prev = freshIndex .prev;
+    used = 1;
+    free = freshIndex .free;
+    frees = 0;
+    dirty = freshIndex .dirty;
+    queued = m .queued;
+    backend = freshIndex .backend;
   };
 }
 

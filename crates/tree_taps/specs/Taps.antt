@@ -20,11 +20,12 @@ use Rattle.forest.specs.Table.{indexOf, lessDeep}
 use Rattle.tree_state.specs.declared.Tree.{Tree}
 use Rattle.tree_state.specs.declared.Verdict.{Verdict}
 use Rattle.tree_state.specs.declared.Verdict.the-variants as is
-use Rattle.tree_state.specs.Tree.{numberOf, idAt}
+use Rattle.tree_state.specs.Tree.{idAt}
 use Rattle.tree_state.specs.Sound.{everyOf}
+use Rattle.tree_steps.specs.Requests as request
 use Rattle.tree_steps.specs.Requests.{Best, nobody, best, pathTo}
 use Rattle.tree_sound.specs.Parts.{Low}
-use Rattle.tree_listings.specs.Listings.{carriedBy}
+use Rattle.tree_listings.specs.Listings.{carriedBy, roomIf}
 use Rattle.tree_taps.specs.declared.Tapped.{Tapped}
 use Rattle.tree_taps.specs.declared.Tapped.the-variants as tapped
 
@@ -37,11 +38,13 @@ unfoldable pub tappedIf : Verdict → Tree → Best → Tapped
 tappedIf is.Accepted t b = hitOf t b
 tappedIf (is.Refused r) t b = tapped.Refused r
 
--- document 01's number, 0 where the call is accepted
-unfoldable pub tappedNumber : Tapped → ℕ
-tappedNumber tapped.Nothing = 0
-tappedNumber (tapped.Hit i n) = 0
-tappedNumber (tapped.Refused r) = numberOf r
+-- ---- the call: what it answers, and the room after it
+
+abbrev pub tapCall : Tree → NodeFlags → Point → ℕ → Tapped
+tapCall t asked pt len = tappedIf (request.requestVerdict t asked len) t (request.hitNode t asked pt)
+
+abbrev pub tapRoom : Tree → NodeFlags → Point → List ℕ → List ℕ
+tapRoom t asked pt room = roomIf (request.requestVerdict t asked (length room)) (request.pathOf t (request.hitNode t asked pt)) room
 
 -- ---- over tables
 

@@ -9,7 +9,6 @@ ghost use Rattle.tree_state.specs.declared.Tree.{Tree};
 ghost use Rattle.tree_state.specs.Sound.{everyOf};
 ghost use Rattle.tree_sound.specs.Parts.{Low};
 ghost use Rattle.tree_steps.specs.Requests as request;
-ghost use Rattle.tree_listings.specs.Listings.{roomIf};
 ghost use Rattle.tree_taps.specs.Taps as spec;
 use box_types::NodeFlags;
 use box_types::QueryFilter;
@@ -284,8 +283,8 @@ fn write_path<'a>(
 
 // The strongest node that the point reaches, and its path.
 pub fn hit_test_point(t: Tree, point: Point, filter: QueryFilter, room: &mut [u32]) -> Tapped
-    ensures answer { λ r. ⌜ r ≡ spec.tappedIf (request.requestVerdict t (filter .«required_flags») (length (now (room .entry)))) t (request.hitNode t (filter .«required_flags») point) ⌝ }
-    ensures rooms { λ _. ⌜ now (room .exit) ≡ roomIf (request.requestVerdict t (filter .«required_flags») (length (now (room .entry)))) (request.pathOf t (request.hitNode t (filter .«required_flags») point)) (now (room .entry)) ⌝ }
+    ensures answer { λ r. ⌜ r ≡ spec.tapCall t (filter .«required_flags») point (length (now (room .entry))) ⌝ }
+    ensures rooms { λ _. ⌜ now (room .exit) ≡ spec.tapRoom t (filter .«required_flags») point (now (room .entry)) ⌝ }
 {
     let asked = filter.required_flags;
     let len = room.len();
