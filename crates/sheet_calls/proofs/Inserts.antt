@@ -12,6 +12,7 @@ use lib.ListN.{length, take, drop, getD, length-append, take-append-drop}
 use lib.Seq.{length-take-le, take-suc, take-length}
 use borrow.Author.Tests.{eq-eqb, ne-eqb, lt-leb, lt-ltb, leb-true}
 use Rattle.numbers.proofs.Bools.{clash, and-left, and-right}
+use Rattle.box_types.specs.declared.NodeFlags.{NodeFlags}
 use Rattle.box_types.specs.declared.LocalNode.{LocalNode}
 use Rattle.box_types.specs.declared.OptionNodeId.the-variants as node
 use Rattle.box_types.specs.Local.{known, finiteLocal}
@@ -19,13 +20,16 @@ use Rattle.forest.specs.Forest.{Forest, none, leaf, pre, has, either, cat, unde
 use Rattle.forest.proofs.Counting.{has-cat, has-under}
 use Rattle.forest.proofs.Whole.{pre-cat}
 use Rattle.forest.proofs.Laws.{end, pre-under}
-use Rattle.plan.specs.Plan.{Plan, empty, nodes, full, parentLive, newId, newSlot, inserted, onto}
+use Rattle.plan.specs.Plan.{Plan, empty, nodes, full, parentLive, newId, newSlot, inserted, onto, needsCommit}
+use Rattle.plan.specs.Lists.{any}
+use Rattle.plan.specs.Visits.{committed}
 use Rattle.plan.specs.Calls as call
 use Rattle.plan.specs.Calls.{Call, Outcome, lowest, refusal, accepted, step, outcome}
 use Rattle.plan.specs.Demand.{run, outcomes}
 use Rattle.plan_sheet.specs.declared.PlaceLine.{PlaceLine}
 use Rattle.plan_sheet.specs.Sheet.{Sheet, Rule, placeOf, placeRule, parentEarlier, placeInRange, clipRule}
 use Rattle.sheet_calls.specs.Calls.{localOf, clipFor, parentAt, insertOf, insertsFrom, callsOf}
+use Rattle.sheet_calls.specs.Answers.{planOf}
 use Rattle.sheet_calls.specs.Good.{Fair, Passes, Good}
 use Rattle.sheet_calls.proofs.Finite.{place-ranges, clip-for-finite, local-finite, local-known}
 
@@ -240,3 +244,28 @@ module _ (s : Sheet) (g : Good s) where
   pub sheet-outcomes : outcomes step outcome empty (callsOf s) ≡ handedOut 0 (length (s .places)) ++ record { refused = 0; id = node.None } ∷ []
   unfolding callsOf
   sheet-outcomes = calls-outcomes (s .clips) clips-pass 0 empty grown-empty [] (s .places) refl (omega (arith, g .few-places)) (g .places)
+
+-- ---- after the commit
+
+none-marked : (xs : List ℕ) → any (λ x. false) xs ≡ false
+unfolding any
+none-marked [] = refl
+none-marked (x ∷ xs) = none-marked xs
+
+pub committed-clean : (p : Plan) → needsCommit (committed p) ≡ false
+unfolding needsCommit committed
+committed-clean p = rw (none-marked (pre (p .links)))
+
+pub commit-step : (p : Plan) → step p (call.commit 2048) ≡ committed p
+unfolding step refusal lowest accepted
+commit-step p = refl
+
+module _ (s : Sheet) where
+  pub plan-committed : planOf s ≡ committed (run step empty (insertsFrom (s .clips) 1 (s .places)))
+  unfolding planOf callsOf run
+  plan-committed = run-append step empty (insertsFrom (s .clips) 1 (s .places)) (call.commit 2048 ∷ []) ∙ commit-step (run step empty (insertsFrom (s .clips) 1 (s .places)))
+
+  -- any request for known flags is accepted then, with room for 256 ids
+  pub request-accepted : (asked : NodeFlags) → known asked ≡ true → lowest (call.conditionsOfRequest (planOf s) asked 512) ≡ 0
+  unfolding lowest
+  request-accepted asked h = rw (h, plan-committed, committed-clean (run step empty (insertsFrom (s .clips) 1 (s .places))))
