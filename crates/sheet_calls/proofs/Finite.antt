@@ -20,7 +20,7 @@ use Rattle.plan_sheet.specs.declared.PlaceLine.{PlaceLine}
 use Rattle.plan_sheet.specs.declared.ClipLine.{ClipLine}
 use Rattle.plan_sheet.specs.Sheet.{within, coordinate, flagByte, placeInRange, clipInRange, clipOf, placeOf, clipRule}
 use Rattle.sheet_calls.specs.Calls.{real, equal, Linear, upright, mirrored, turned, turns, orientation, shifted, clipOn, clipFor, localOf}
-use Rattle.sheet_calls.specs.Good.{Fair, Passes}
+use Rattle.sheet_calls.specs.Good.{Fair, Passes, Small}
 use Rattle.sheet_calls.proofs.Whole.{coordinate-near, from-zero, small-finite}
 
 -- ---- a row's ranges, by name
@@ -92,18 +92,12 @@ clip-ranges c h =
 
 -- ---- the orientations' coefficients are 0, 1 and −1
 
-pub record Small (m : Linear) : Type 0 where
-  pub a : natAbs (m .a) ≤ 1
-  pub b : natAbs (m .b) ≤ 1
-  pub c : natAbs (m .c) ≤ 1
-  pub d : natAbs (m .d) ≤ 1
-
-abs-neg : (z : ℤ) → natAbs (negℤ z) ≡ natAbs z
+pub abs-neg : (z : ℤ) → natAbs (negℤ z) ≡ natAbs z
 abs-neg (pos zero) = refl
 abs-neg (pos (suc n)) = refl
 abs-neg (negsuc n) = refl
 
-turns-small : (k : ℕ) (m : Linear) → Small m → Small (turns k m)
+pub turns-small : (k : ℕ) (m : Linear) → Small m → Small (turns k m)
 unfolding turns
 turns-small zero m s = s
 turns-small (suc k) m s =
@@ -115,7 +109,7 @@ turns-small (suc k) m s =
       d = t .c;
     }
 
-first-small : (b : Bool) → Small (cond b upright mirrored)
+pub first-small : (b : Bool) → Small (cond b upright mirrored)
 first-small true = record { a = omega arith; b = omega arith; c = omega arith; d = omega arith }
 first-small false = record { a = omega arith; b = omega arith; c = omega arith; d = omega arith }
 

@@ -3,9 +3,10 @@ use Prim.Native.Nat.{ℕ, _≤_}
 use mathlib.Core.Path.{_≡_}
 use mathlib.Core.Bool.{true}
 use mathlib.Core.List.{List, [], _∷_, _++_}
-use lib.IntN.{ℤ}
+use lib.IntN.{ℤ, natAbs}
 use lib.ListN.{length}
 use Rattle.plan_sheet.specs.Sheet.{Sheet, Rule, placeRule, clipRule, tapRule}
+use Rattle.sheet_calls.specs.Calls.{Linear}
 
 -- a row that its rule lets pass, after the rows before it in its section
 pub record Fair (rule : Rule) (before : List (List ℤ)) (row : List ℤ) : Type 0 where
@@ -25,3 +26,10 @@ pub record Good (s : Sheet) : Type 0 where
   pub places : Passes placeRule [] (s .places)
   pub clips : Passes (clipRule (length (s .places))) [] (s .clips)
   pub taps : Passes tapRule [] (s .taps)
+
+-- coefficients 0, 1 and −1
+pub record Small (m : Linear) : Type 0 where
+  pub a : natAbs (m .a) ≤ 1
+  pub b : natAbs (m .b) ≤ 1
+  pub c : natAbs (m .c) ≤ 1
+  pub d : natAbs (m .d) ≤ 1
