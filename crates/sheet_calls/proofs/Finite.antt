@@ -6,6 +6,7 @@ use mathlib.Core.List.{List, [], _∷_, _++_}
 use native.Mathlib.Omega.{arith}
 use lib.Dec.{ltb}
 use lib.IntN.{ℤ, pos, negsuc, negℤ, natAbs}
+use lib.Signed.{mag}
 use lib.Ieee.{binary64, ofInt, ofBits, ofFields, odd}
 use lib.Ieee.Scale.{finite}
 use borrow.Author.Tests.{lt-ltb}
@@ -21,7 +22,7 @@ use Rattle.plan_sheet.specs.declared.ClipLine.{ClipLine}
 use Rattle.plan_sheet.specs.Sheet.{within, coordinate, flagByte, placeInRange, clipInRange, clipOf, placeOf, clipRule}
 use Rattle.sheet_calls.specs.Calls.{real, equal, Linear, upright, mirrored, turned, turns, orientation, shifted, clipOn, clipFor, localOf}
 use Rattle.sheet_calls.specs.Good.{Fair, Passes, Small}
-use Rattle.sheet_calls.proofs.Whole.{coordinate-near, from-zero, small-finite}
+use Rattle.sheet_calls.proofs.Whole.{coordinate-near, from-zero, small-finite, not-negative, level-fits}
 
 -- ---- a row's ranges, by name
 
@@ -35,6 +36,9 @@ pub record PlaceRanges (p : PlaceLine) : Type 0 where
   pub y1 : natAbs (p .y1) ≤ 1000000
   pub slop : natAbs (p .slop) ≤ 1000
   pub flags : natAbs (p .flags) ≤ 7
+  pub turn : p .orientation ≡ pos (natAbs (p .orientation))
+  pub level : mag (p .level) ≤ 2147483647
+  pub bits : p .flags ≡ pos (natAbs (p .flags))
 
 pub place-ranges : (p : PlaceLine) → placeInRange p ≡ true → PlaceRanges p
 unfolding placeInRange
@@ -64,6 +68,9 @@ place-ranges p h =
       y1 = coordinate-near (p .y1) (and-right c3 (coordinate (p .y1)) hc);
       slop = from-zero 1000 (p .slop) (and-right (a && b && c) d abcd);
       flags = from-zero 7 (p .flags) (and-right (a && b && c && d && e) f h);
+      turn = not-negative 7 (p .orientation) (and-left a b ab);
+      level = level-fits (p .level) (and-right (a && b && c && d) e abcde);
+      bits = not-negative 7 (p .flags) (and-right (a && b && c && d && e) f h);
     }
 
 pub record ClipRanges (c : ClipLine) : Type 0 where

@@ -7,7 +7,7 @@ use native.Mathlib.Decide.{ℕ-discrete}
 use native.Mathlib.Omega.{arith}
 use lib.Dec.{leb→le, ltb→lt}
 use lib.IntN.{ℤ, pos, negsuc, negℤ, natAbs}
-use lib.Signed.{leZ}
+use lib.Signed.{leZ, mag}
 use lib.Pow.{shl-lt}
 use lib.Ieee.{Float, nan, inf, fin, binary64, round, ofInt}
 use lib.Ieee.Exact.{HasValue, round-exact}
@@ -67,3 +67,13 @@ from-zero n (negsuc m) h = clash (sym h)
 
 pub small-finite : (z : ℤ) → natAbs z ≤ 1000000 → finite (ofInt binary64 z) ≡ true
 small-finite z h = whole-finite z (omega arith)
+
+-- from 0 up, a number is its magnitude
+pub not-negative : (n : ℕ) (z : ℤ) → within (pos 0) (pos n) z ≡ true → z ≡ pos (natAbs z)
+not-negative n (pos m) h = refl
+not-negative n (negsuc m) h = clash (sym h)
+
+-- a level fits an i32
+pub level-fits : (z : ℤ) → within (negℤ (pos 2147483648)) (pos 2147483647) z ≡ true → mag z ≤ 2147483647
+level-fits (pos m) h = leb-true m 2147483647 (and-right true (leZ (pos m) (pos 2147483647)) h)
+level-fits (negsuc m) h = leb-true m 2147483647 (and-left (leZ (negsuc 2147483647) (negsuc m)) true h)

@@ -3,9 +3,11 @@ use Prim.Native.Nat.{ℕ, zero, suc, _≤_, _<_, _^_}
 use mathlib.Core.Path.{_≡_, refl, sym, ap, _∙_, subst}
 use native.Mathlib.Omega.{arith}
 use lib.IntN.{ℤ, pos, negsuc, negℤ, natAbs, _+ℤ_, _-ℤ_, +ℤ-idl}
-use lib.Signed.{mag}
-use mir.Syntax.{w64}
-use mir.Val.{SFits, toZ, ofZ}
+use lib.Signed.{mag, nonNeg}
+use lib.Dec.{T, le→leb, lt→ltb}
+use lib.Ieee.{binary64, inFloat}
+use mir.Syntax.{w8, w32, w64}
+use mir.Val.{Fits, SFits, toZ, ofZ}
 use mir.Facts.{toZ-ofZ}
 use Rattle.sheet_calls.proofs.Finite.{abs-neg}
 
@@ -27,3 +29,40 @@ negation-fits z h = rw (back z (omega arith), from-nothing z) (fits-small (neg�
 
 pub negation : (z : ℤ) → natAbs z ≤ 1 → toZ w64 (ofZ w64 (pos 0 -ℤ toZ w64 (ofZ w64 z))) ≡ negℤ z
 negation z h = rw (back z (omega arith), from-nothing z) (back (negℤ z) (omega (arith, abs-neg z)))
+
+pub near : (z : ℤ) (n : ℕ) → natAbs z ≤ n → n ≤ 9007199254740992 → natAbs (toZ w64 (ofZ w64 z)) ≤ n
+near z n h k = rw (back z (omega arith)) h
+
+-- ---- casts
+
+float-room : (z : ℤ) → natAbs z ≤ 9007199254740992 → T (inFloat binary64 z)
+unfolding inFloat
+float-room (pos n) h = le→leb n 9007199254740992 h
+float-room (negsuc n) h = lt→ltb n 9007199254740992 h
+
+pub to-float : (z : ℤ) → natAbs z ≤ 1000000 → T (inFloat binary64 (toZ w64 (ofZ w64 z)))
+to-float z h = rw (back z (omega arith)) (float-room z (omega arith))
+
+pub to-byte : (z : ℤ) → z ≡ pos (natAbs z) → natAbs z ≤ 7 → T (nonNeg (toZ w64 (ofZ w64 z))) × Fits w8 (natAbs (toZ w64 (ofZ w64 z)))
+to-byte z p h = rw (back z (omega arith)) (subst (λ (y : ℤ). T (nonNeg y)) (sym p) tt, record { fits = omega arith })
+
+mag-fits : (z : ℤ) → mag z ≤ 2147483647 → SFits w64 z
+mag-fits z h = record { sfits = omega arith }
+
+pub to-level : (z : ℤ) → mag z ≤ 2147483647 → SFits w32 (toZ w64 (ofZ w64 z))
+to-level z h = rw (toZ-ofZ (mag-fits z h)) (record { sfits = omega arith })
+
+pub level-back : (z : ℤ) → mag z ≤ 2147483647 → toZ w32 (ofZ w32 (toZ w64 (ofZ w64 z))) ≡ z
+level-back z h = rw (toZ-ofZ (mag-fits z h)) (toZ-ofZ {w = w32} {z = z} (record { sfits = omega arith }))
+
+pub level-near : (z : ℤ) → mag z ≤ 2147483647 → mag (toZ w64 (ofZ w64 z)) ≤ 2147483647
+level-near z h = rw (toZ-ofZ (mag-fits z h)) h
+
+pub level-same : (z : ℤ) → mag z ≤ 2147483647 → toZ w64 (ofZ w64 z) ≡ z
+level-same z h = toZ-ofZ (mag-fits z h)
+
+pub byte-near : (z : ℤ) → z ≡ pos (natAbs z) → natAbs z ≤ 7 → (toZ w64 (ofZ w64 z) ≡ pos (natAbs (toZ w64 (ofZ w64 z)))) × (natAbs (toZ w64 (ofZ w64 z)) ≤ 7)
+byte-near z p h = (rw (back z (omega arith)) p, near z 7 h (omega arith))
+
+pub word-same : (z : ℤ) → mag z ≤ 2147483647 → toZ w32 (ofZ w32 z) ≡ z
+word-same z h = toZ-ofZ {w = w32} {z = z} (record { sfits = omega arith })
