@@ -1,0 +1,163 @@
+-- `sheet_tree::place_at` meets its contract. Assumes nothing.
+use native.Mathlib.Omega.{arith}
+use borrow.Author.Needs.{needs}
+use Rattle.sheet_laws.specs.Built.{rowAt}
+use Rattle.sheet_laws.proofs.Tables.{first-read, next-read, place-row}
+use Rattle.sheet_tree.proofs.place_at.Statement.{statement}
+use Rattle.sheet_tree.proofs.place_at.Tie as tie
+
+mul-at : tie.Need-mul-at
+mul-at c = search needs
+
+mul-t4 : tie.Need-mul-t4
+mul-t4 c = search needs
+
+element-copy-out-t7 : tie.Need-element-copy-out-t7
+element-copy-out-t7 c = search needs
+
+add-t8 : tie.Need-add-t8
+add-t8 c = search needs
+
+mul-t9 : tie.Need-mul-t9
+mul-t9 c = search needs
+
+element-copy-out-t12 : tie.Need-element-copy-out-t12
+element-copy-out-t12 c = search needs
+
+add-t13 : tie.Need-add-t13
+add-t13 c = search needs
+
+mul-t14 : tie.Need-mul-t14
+mul-t14 c = search needs
+
+element-copy-out-t17 : tie.Need-element-copy-out-t17
+element-copy-out-t17 c = search needs
+
+add-t18 : tie.Need-add-t18
+add-t18 c = search needs
+
+mul-t19 : tie.Need-mul-t19
+mul-t19 c = search needs
+
+element-copy-out-t22 : tie.Need-element-copy-out-t22
+element-copy-out-t22 c = search needs
+
+add-t23 : tie.Need-add-t23
+add-t23 c = search needs
+
+mul-t24 : tie.Need-mul-t24
+mul-t24 c = search needs
+
+element-copy-out-t27 : tie.Need-element-copy-out-t27
+element-copy-out-t27 c = search needs
+
+add-t28 : tie.Need-add-t28
+add-t28 c = search needs
+
+mul-t29 : tie.Need-mul-t29
+mul-t29 c = search needs
+
+element-copy-out-t32 : tie.Need-element-copy-out-t32
+element-copy-out-t32 c = search needs
+
+add-t33 : tie.Need-add-t33
+add-t33 c = search needs
+
+mul-t34 : tie.Need-mul-t34
+mul-t34 c = search needs
+
+element-copy-out-t37 : tie.Need-element-copy-out-t37
+element-copy-out-t37 c = search needs
+
+add-t38 : tie.Need-add-t38
+add-t38 c = search needs
+
+mul-t39 : tie.Need-mul-t39
+mul-t39 c = search needs
+
+element-copy-out-t42 : tie.Need-element-copy-out-t42
+element-copy-out-t42 c = search needs
+
+add-t43 : tie.Need-add-t43
+add-t43 c = search needs
+
+mul-t44 : tie.Need-mul-t44
+mul-t44 c = search needs
+
+element-copy-out-t47 : tie.Need-element-copy-out-t47
+element-copy-out-t47 c = search needs
+
+add-t48 : tie.Need-add-t48
+add-t48 c = search needs
+
+mul-t49 : tie.Need-mul-t49
+mul-t49 c = search needs
+
+element-copy-out-t52 : tie.Need-element-copy-out-t52
+element-copy-out-t52 c = search needs
+
+add-t53 : tie.Need-add-t53
+add-t53 c = search needs
+
+mul-t54 : tie.Need-mul-t54
+mul-t54 c = search needs
+
+element-copy-out-t57 : tie.Need-element-copy-out-t57
+element-copy-out-t57 c = search needs
+
+returns : tie.Need-returns
+returns c =
+    let s = c .before .before .before .before .before .before .before .before .before .before .before in
+    let t = s .args .places .now in
+    let i = s .args .i in
+    place-row (rowAt 11 t i) _ _ _ _ _ _ _ _ _ _ _
+    (first-read 11 t i (omega arith) (c .before .before .before .before .before .before .before .before .before .before .t7 .given))
+    (next-read 11 t i 1 (omega arith) (c .before .before .before .before .before .before .before .before .before .t12 .given))
+    (next-read 11 t i 2 (omega arith) (c .before .before .before .before .before .before .before .before .t17 .given))
+    (next-read 11 t i 3 (omega arith) (c .before .before .before .before .before .before .before .t22 .given))
+    (next-read 11 t i 4 (omega arith) (c .before .before .before .before .before .before .t27 .given))
+    (next-read 11 t i 5 (omega arith) (c .before .before .before .before .before .t32 .given))
+    (next-read 11 t i 6 (omega arith) (c .before .before .before .before .t37 .given))
+    (next-read 11 t i 7 (omega arith) (c .before .before .before .t42 .given))
+    (next-read 11 t i 8 (omega arith) (c .before .before .t47 .given))
+    (next-read 11 t i 9 (omega arith) (c .before .t52 .given))
+    (next-read 11 t i 10 (omega arith) (c .t57 .given))
+
+pub place-at-spec : {M : Type 1} → statement M
+place-at-spec =
+    tie.close
+    (tie.spec
+    mul-at
+    mul-t4
+    element-copy-out-t7
+    add-t8
+    mul-t9
+    element-copy-out-t12
+    add-t13
+    mul-t14
+    element-copy-out-t17
+    add-t18
+    mul-t19
+    element-copy-out-t22
+    add-t23
+    mul-t24
+    element-copy-out-t27
+    add-t28
+    mul-t29
+    element-copy-out-t32
+    add-t33
+    mul-t34
+    element-copy-out-t37
+    add-t38
+    mul-t39
+    element-copy-out-t42
+    add-t43
+    mul-t44
+    element-copy-out-t47
+    add-t48
+    mul-t49
+    element-copy-out-t52
+    add-t53
+    mul-t54
+    element-copy-out-t57
+    returns)
