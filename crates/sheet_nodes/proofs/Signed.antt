@@ -43,6 +43,9 @@ float-room (negsuc n) h = lt→ltb n 9007199254740992 h
 pub to-float : (z : ℤ) → natAbs z ≤ 1000000 → T (inFloat binary64 (toZ w64 (ofZ w64 z)))
 to-float z h = rw (back z (omega arith)) (float-room z (omega arith))
 
+pub to-word : (z : ℤ) → z ≡ pos (natAbs z) → natAbs z ≤ 256 → T (nonNeg (toZ w64 (ofZ w64 z))) × Fits w32 (natAbs (toZ w64 (ofZ w64 z)))
+to-word z p h = rw (back z (omega arith)) (subst (λ (y : ℤ). T (nonNeg y)) (sym p) tt, record { fits = omega arith })
+
 pub to-byte : (z : ℤ) → z ≡ pos (natAbs z) → natAbs z ≤ 7 → T (nonNeg (toZ w64 (ofZ w64 z))) × Fits w8 (natAbs (toZ w64 (ofZ w64 z)))
 to-byte z p h = rw (back z (omega arith)) (subst (λ (y : ℤ). T (nonNeg y)) (sym p) tt, record { fits = omega arith })
 
@@ -60,6 +63,9 @@ level-near z h = rw (toZ-ofZ (mag-fits z h)) h
 
 pub level-same : (z : ℤ) → mag z ≤ 2147483647 → toZ w64 (ofZ w64 z) ≡ z
 level-same z h = toZ-ofZ (mag-fits z h)
+
+pub word-near : (z : ℤ) → z ≡ pos (natAbs z) → natAbs z ≤ 256 → (toZ w64 (ofZ w64 z) ≡ pos (natAbs (toZ w64 (ofZ w64 z)))) × (natAbs (toZ w64 (ofZ w64 z)) ≤ 256)
+word-near z p h = (rw (back z (omega arith)) p, near z 256 h (omega arith))
 
 pub byte-near : (z : ℤ) → z ≡ pos (natAbs z) → natAbs z ≤ 7 → (toZ w64 (ofZ w64 z) ≡ pos (natAbs (toZ w64 (ofZ w64 z)))) × (natAbs (toZ w64 (ofZ w64 z)) ≤ 7)
 byte-near z p h = (rw (back z (omega arith)) p, near z 7 h (omega arith))

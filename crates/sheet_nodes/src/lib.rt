@@ -108,7 +108,8 @@ fn small(x: i64) -> u8
     x as u8
 }
 
-fn equal(a: i64, b: i64) -> bool
+// As whole numbers.
+pub fn equal(a: i64, b: i64) -> bool
     ensures { λ r. ⌜ r ≡ call.equal a b ⌝ }
 {
     (a <= b) & (b <= a)
