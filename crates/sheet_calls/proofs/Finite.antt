@@ -19,8 +19,10 @@ use Rattle.clips.specs.Clips.{clipRect, clipRadii, finiteClipRect, finiteClip}
 use Rattle.box_types.specs.Local.{known, finiteLocal}
 use Rattle.plan_sheet.specs.declared.PlaceLine.{PlaceLine}
 use Rattle.plan_sheet.specs.declared.ClipLine.{ClipLine}
-use Rattle.plan_sheet.specs.Sheet.{within, coordinate, flagByte, placeInRange, clipInRange, clipOf, placeOf, clipRule}
+use Rattle.plan_sheet.specs.declared.TapLine.{TapLine}
+use Rattle.plan_sheet.specs.Sheet.{within, coordinate, flagByte, placeInRange, clipInRange, tapInRange, clipOf, placeOf, clipRule}
 use Rattle.sheet_calls.specs.Calls.{real, equal, Linear, upright, mirrored, turned, turns, orientation, shifted, clipOn, clipFor, localOf}
+use Rattle.sheet_calls.specs.Answers.{askedOf}
 use Rattle.sheet_calls.specs.Good.{Fair, Passes, Small}
 use Rattle.sheet_calls.proofs.Whole.{coordinate-near, from-zero, small-finite, not-negative, level-fits}
 
@@ -97,6 +99,27 @@ clip-ranges c h =
       radius = from-zero 1000000 (c .radius) (and-right a b h);
     }
 
+pub record TapRanges (t : TapLine) : Type 0 where
+  pub x : natAbs (t .x) ≤ 1000000
+  pub y : natAbs (t .y) ≤ 1000000
+  pub flags : natAbs (t .flags) ≤ 7
+  pub bits : t .flags ≡ pos (natAbs (t .flags))
+
+pub tap-ranges : (t : TapLine) → tapInRange t ≡ true → TapRanges t
+unfolding tapInRange
+tap-ranges t h =
+    let a = coordinate (t .x) in
+    let b = coordinate (t .y) in
+    let c = flagByte (t .flags) in
+    let ab : a && b ≡ true = and-left (a && b) c h in
+    record {
+      x = coordinate-near (t .x) (and-left a b ab);
+      y = coordinate-near (t .y) (and-right a b ab);
+      flags = from-zero 7 (t .flags) (and-right (a && b) c h);
+      bits = not-negative 7 (t .flags) (and-right (a && b) c h);
+    }
+
+
 -- ---- the orientations' coefficients are 0, 1 and −1
 
 pub abs-neg : (z : ℤ) → natAbs (negℤ z) ≡ natAbs z
@@ -171,3 +194,6 @@ local-finite p c r f =
 pub local-known : (p : PlaceLine) (c : Clip) → PlaceRanges p → known (localOf p c .flags) ≡ true
 unfolding localOf
 local-known p c r = lt-ltb (natAbs (p .flags)) 8 (omega (arith, r .flags))
+
+pub asked-known : (t : TapLine) → TapRanges t → known (askedOf t) ≡ true
+asked-known t r = lt-ltb (natAbs (t .flags)) 8 (omega (arith, r .flags))

@@ -1,14 +1,13 @@
 -- On the box tree every call of a good sheet is accepted, by demand 3; and each tap after them answers the plan's definition on the redacted plan.
 use Prim.Native.Nat.{ℕ, zero, suc, _≤_, _<_}
 use mathlib.Core.Path.{_≡_, refl, sym, ap, _∙_, subst}
-use mathlib.Core.Bool.{Bool, true, false, _&&_}
+use mathlib.Core.Bool.{Bool, true, false}
 use mathlib.Core.List.{List, [], _∷_, _++_}
 use native.Mathlib.Omega.{arith}
-use lib.IntN.{ℤ, pos, natAbs}
+use lib.IntN.{ℤ, pos}
 use lib.Ieee.{nan}
 use lib.ListN.{length, take, getD}
 use borrow.Author.Tests.{lt-ltb}
-use Rattle.numbers.proofs.Bools.{and-left, and-right}
 use Rattle.geometry.specs.declared.point.Point.{Point}
 use Rattle.box_types.specs.declared.NodeFlags.{NodeFlags}
 use Rattle.box_types.specs.declared.OptionNodeId.the-variants as node
@@ -31,12 +30,10 @@ use Rattle.plan.specs.Demand as demand
 use Rattle.plan.specs.Demand.{run, outcomes}
 use Rattle.demand3.proofs.Theorem.{Meets, meets-fresh, run-meets, refused-same, demand-3}
 use Rattle.demand3.proofs.Soundness.{sound-from-fresh}
-use Rattle.plan_sheet.specs.declared.TapLine.{TapLine}
-use Rattle.plan_sheet.specs.Sheet.{Sheet, placeOf, tapOf, coordinate, flagByte, tapInRange}
+use Rattle.plan_sheet.specs.Sheet.{Sheet, placeOf}
 use Rattle.sheet_calls.specs.Calls.{insertOf, insertsFrom, callsOf}
 use Rattle.sheet_calls.specs.Answers.{planOf, tapOn, askedOf, pointOf}
 use Rattle.sheet_calls.specs.Good.{Good}
-use Rattle.sheet_calls.proofs.Whole.{coordinate-near, from-zero}
 use Rattle.sheet_calls.proofs.Inserts.{handedOut, next-accepted, next-calls, all-calls, run-append, sheet-outcomes, request-accepted}
 use Rattle.sheet_laws.specs.Built.{treeUpTo, treeOf}
 
@@ -106,24 +103,6 @@ module _ (s : Sheet) (g : Good s) where
   tree-outcomes = demand-3 .alike (callsOf s) ∙ sheet-outcomes s g
 
 -- ---- taps
-
-pub record TapRanges (t : TapLine) : Type 0 where
-  pub x : natAbs (t .x) ≤ 1000000
-  pub y : natAbs (t .y) ≤ 1000000
-  pub flags : natAbs (t .flags) ≤ 7
-
-pub tap-ranges : (t : TapLine) → tapInRange t ≡ true → TapRanges t
-unfolding tapInRange
-tap-ranges t h =
-    let a = coordinate (t .x) in
-    let b = coordinate (t .y) in
-    let c = flagByte (t .flags) in
-    let ab : a && b ≡ true = and-left (a && b) c h in
-    record {
-      x = coordinate-near (t .x) (and-left a b ab);
-      y = coordinate-near (t .y) (and-right a b ab);
-      flags = from-zero 7 (t .flags) (and-right (a && b) c h);
-    }
 
 tapped-same : {a b : afresh.Tap} → demand.tapped a ≡ demand.tapped b → a ≡ b
 tapped-same e = cc

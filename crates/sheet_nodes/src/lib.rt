@@ -5,17 +5,20 @@ ghost use Prim.Native.Nat.{_≤_};
 ghost use lib.IntN.{pos, negℤ, natAbs};
 ghost use lib.Signed.{mag};
 ghost use Rattle.geometry.specs.Rectangle.{rect};
-ghost use Rattle.plan_sheet.specs.Sheet.{placeInRange, clipInRange};
+ghost use Rattle.plan_sheet.specs.Sheet.{placeInRange, clipInRange, tapInRange};
 ghost use Rattle.sheet_calls.specs.Calls as call;
+ghost use Rattle.sheet_calls.specs.Answers.{pointOf, askedOf};
 ghost use Rattle.sheet_calls.specs.Good.{Small};
 ghost use Rattle.sheet_nodes.specs.Nodes as spec;
 use box_types::LocalNode;
 use box_types::NodeFlags;
 use clips::clip::Clip;
 use geometry::insets::Insets;
+use geometry::point::Point;
 use geometry::rect::Rect;
 use plan_sheet::ClipLine;
 use plan_sheet::PlaceLine;
+use plan_sheet::TapLine;
 use transforms::affine::Affine;
 
 // (x, y) goes to (a·x + c·y, b·x + d·y), in whole numbers.
@@ -197,4 +200,25 @@ pub fn local_of(p: PlaceLine, clip: Clip) -> LocalNode
         z_index: z,
         flags: NodeFlags(bits),
     }
+}
+
+// ---- taps
+
+// Inner: the point of a tap's line that is in range.
+pub fn point_of(t: TapLine) -> Point
+    requires { ⌜ tapInRange t ≡ true ⌝ }
+    ensures { λ r. ⌜ r ≡ pointOf t ⌝ }
+{
+    let x = real(t.x);
+    let y = real(t.y);
+    Point { x, y }
+}
+
+// Inner: the flags that it asks for.
+pub fn asked_of(t: TapLine) -> NodeFlags
+    requires { ⌜ tapInRange t ≡ true ⌝ }
+    ensures { λ r. ⌜ r ≡ askedOf t ⌝ }
+{
+    let bits = small(t.flags);
+    NodeFlags(bits)
 }
