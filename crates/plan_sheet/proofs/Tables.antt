@@ -1,0 +1,99 @@
+-- Rows in a table: their number, one more of them, the rows before it. Assumes nothing.
+use mathlib.Core.Path.{_≡_, refl, sym, ap, _∙_}
+use mathlib.Core.Bool.{Bool, true, false, _&&_, _||_}
+use mathlib.Core.List.{List, [], _∷_, _++_, append-assoc}
+use Prim.Native.Nat.{ℕ, zero, suc, _+_, _*_, _-_, _≤_, _<_}
+use native.Mathlib.Nat.{suc-mul}
+use native.Mathlib.Omega.{arith}
+use lib.IntN.{ℤ, pos}
+use lib.Signed.{leZ}
+use lib.ListN.{length, getD, take, drop}
+use lib.Seq.{take-take, drop-drop, take-at, drop-at, length-take-le, getD-drop, getD-take, paste, take-nil, drop-nil}
+use Rattle.plan_sheet.specs.Sheet.{clipOf, clippedBefore}
+use Rattle.plan_sheet.specs.Told.{rowsOf}
+
+drop-take : (w m : ℕ) (t : List ℤ) → drop w (take (w + m) t) ≡ take m (drop w t)
+drop-take zero m t = let e : 0 + m ≡ m = omega arith in rw e
+drop-take (suc w) m [] = let e : suc w + m ≡ suc (w + m) = omega arith in rw e (sym (take-nil m))
+drop-take (suc w) m (a ∷ t) = let e : suc w + m ≡ suc (w + m) = omega arith in rw e (drop-take w m t)
+
+next-row : (w n : ℕ) → suc n * w ≡ w + n * w
+next-row w n = let e : suc n * w ≡ n * w + w = suc-mul n w in omega arith
+
+pub rows-length : (w n : ℕ) (t : List ℤ) → length (rowsOf w n t) ≡ n
+unfolding rowsOf
+rows-length w zero t = refl
+rows-length w (suc n) t = ap suc (rows-length w n (drop w t))
+
+rows-snoc : (w n : ℕ) (t : List ℤ) → rowsOf w (suc n) t ≡ rowsOf w n t ++ take w (drop (n * w) t) ∷ []
+unfolding rowsOf
+rows-snoc w zero t = let e : 0 * w ≡ 0 = omega arith in rw e
+rows-snoc w (suc n) t =
+    rw (next-row w n, ← drop-drop (n * w) w t) (ap (λ l. take w t ∷ l) (rows-snoc w n (drop w t)))
+
+rows-agree : (w n : ℕ) (t u : List ℤ) → take (n * w) t ≡ take (n * w) u → rowsOf w n t ≡ rowsOf w n u
+unfolding rowsOf
+rows-agree w zero t u e = refl
+rows-agree w (suc n) t u e =
+    let e' : take (w + n * w) t ≡ take (w + n * w) u = rw next-row at e in
+    let l : w ≤ w + n * w = omega arith in
+    let a : take w t ≡ take w u = sym (take-take w (w + n * w) t l) ∙ ap (take w) e' ∙ take-take w (w + n * w) u l in
+    let b : take (n * w) (drop w t) ≡ take (n * w) (drop w u) = sym (drop-take w (n * w) t) ∙ ap (drop w) e' ∙ drop-take w (n * w) u in
+    rw (a, rows-agree w n (drop w t) (drop w u) b)
+
+-- a row is stored behind the others
+module _ (w n : ℕ) (t r : List ℤ) (h : n * w + w ≤ length t) (k : w ≤ length r) where
+  rest : List ℤ
+  rest = drop (n * w + w) t
+
+  apart : paste t (n * w) r w ≡ take (n * w) t ++ (take w r ++ rest)
+  unfolding rest
+  apart = append-assoc (take (n * w) t) (take w r) (drop (n * w + w) t)
+
+  front : length (take (n * w) t) ≡ n * w
+  front = let l : n * w ≤ length t = omega arith in length-take-le (n * w) t l
+
+  kept : take (n * w) (paste t (n * w) r w) ≡ take (n * w) t
+  kept = ap (take (n * w)) apart ∙ take-at (take (n * w) t) (take w r ++ rest) (n * w) front
+
+  new : take w (drop (n * w) (paste t (n * w) r w)) ≡ take w r
+  new =
+      ap (λ l. take w (drop (n * w) l)) apart
+      ∙ ap (take w) (drop-at (take (n * w) t) (take w r ++ rest) (n * w) front)
+      ∙ take-at (take w r) rest w (length-take-le w r k)
+
+  pub stored : rowsOf w (suc n) (paste t (n * w) r w) ≡ rowsOf w n t ++ take w r ∷ []
+  stored =
+      rows-snoc w n (paste t (n * w) r w)
+      ∙ ap (λ l. rowsOf w n (paste t (n * w) r w) ++ l ∷ []) new
+      ∙ ap (λ l. l ++ take w r ∷ []) (rows-agree w n (paste t (n * w) r w) t kept)
+
+-- ---- places clipped before, row by row
+
+abbrev pub clippedFrom : List ℤ → ℕ → ℕ → ℤ → Bool
+clippedFrom t n i k = clippedBefore (rowsOf 6 (n - i) (drop (i * 6) t)) k
+
+module _ (t : List ℤ) (n i : ℕ) (k : ℤ) where
+  pub none-left : n ≤ i → false ≡ clippedFrom t n i k
+  unfolding clippedBefore rowsOf
+  none-left h = let e : n - i ≡ 0 = omega arith in rw e
+
+  one : i < n → clippedFrom t n i k ≡ (leZ k (getD t (i * 6) (pos 0)) && leZ (getD t (i * 6) (pos 0)) k) || clippedFrom t n (i + 1) k
+  unfolding clippedBefore rowsOf clipOf
+  one h =
+      let e : n - i ≡ suc (n - (i + 1)) = omega arith in
+      let a : i * 6 + 0 ≡ i * 6 = omega arith in
+      let b : (i + 1) * 6 ≡ i * 6 + 6 = omega arith in
+      let u = drop (i * 6) t in
+      let l : 0 < 6 = omega arith in
+      let c : getD (take 6 u) 0 (pos 0) ≡ getD t (i * 6) (pos 0) = getD-take 6 u 0 (pos 0) l ∙ getD-drop (i * 6) t 0 (pos 0) ∙ ap (λ m. getD t m (pos 0)) a in
+      rw (e, b, ← drop-drop 6 (i * 6) t, c)
+
+  pub this-one : (b : Bool) → i < n → b ≡ leZ k (getD t (i * 6) (pos 0)) && leZ (getD t (i * 6) (pos 0)) k → b ≡ true → true ≡ clippedFrom t n i k
+  this-one b h e p = rw (one h, ← e, p)
+
+  pub not-this : (b : Bool) → i < n → b ≡ leZ k (getD t (i * 6) (pos 0)) && leZ (getD t (i * 6) (pos 0)) k → b ≡ false → clippedFrom t n (i + 1) k ≡ clippedFrom t n i k
+  not-this b h e p = rw (one h, ← e, p)
+
+pub from-first : (t : List ℤ) (n : ℕ) (k : ℤ) → clippedFrom t n 0 k ≡ clippedBefore (rowsOf 6 n t) k
+from-first t n k = let e : n - 0 ≡ n = omega arith in rw e

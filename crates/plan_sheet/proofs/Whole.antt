@@ -1,0 +1,88 @@
+-- The sheet from its sections, and rows of its tables. Assumes nothing.
+use mathlib.Core.Path.{_≡_, refl, sym, ap, _∙_}
+use mathlib.Core.Bool.{Bool, true, false, cond}
+use mathlib.Core.List.{List, [], _∷_, _++_}
+use Prim.Native.Nat.{ℕ, zero, suc, _+_, _*_, _≤_, _<_}
+use native.Mathlib.Nat.{suc-mul}
+use native.Mathlib.Omega.{arith}
+use borrow.Author.Tests.{lt-ltb, le-ltb, ltb-true}
+use lib.Dec.{ltb}
+use lib.IntN.{ℤ, pos}
+use lib.ListN.{length, getD, take, drop, drop-of-length-le}
+use lib.Seq.{drop-cons, drop-drop, getD-take, getD-drop}
+use Rattle.plan_sheet.specs.declared.PlaceLine.{PlaceLine}
+use Rattle.plan_sheet.specs.Sheet.{placeOf, Rule, Section, stopped, ended, placeRule, clipRule, tapRule, counted, Sheet, Read, refused, sheet, thenRead, atEnd, readSheet}
+use Rattle.plan_sheet.specs.Told.{rowsOf, rowAt, fromTaps, fromClips}
+
+-- ---- the end
+
+pub at-end : (line : ℕ) (whole : Sheet) (s : List ℕ) (next : ℕ) → length s ≤ next → sheet whole ≡ atEnd line whole (drop next s)
+at-end line whole s next h = rw (drop-of-length-le s h)
+
+pub before-end : (line : ℕ) (whole : Sheet) (s : List ℕ) (next : ℕ) → next < length s → refused 24 line ≡ atEnd line whole (drop next s)
+before-end line whole s next h = rw (drop-cons s next 0 h)
+
+-- ---- taps
+
+module _ (P C : List (List ℤ)) (n m : ℕ) (p : length P ≡ n) (q : length C ≡ m) (s : List ℕ) where
+  pub taps-stop : (r l : ℕ) → stopped r l ≡ counted tapRule 1000 (3 + (n + m)) s → refused r l ≡ fromTaps P C s
+  taps-stop r l e = rw (p, q, ← e)
+
+  pub taps-go : (U : List (List ℤ)) (k : ℕ) (rest : List ℕ) → length U ≡ k → ended U rest ≡ counted tapRule 1000 (3 + (n + m)) s
+      → atEnd (4 + (n + m) + k) (record { places = P; clips = C; taps = U }) rest ≡ fromTaps P C s
+  taps-go U k rest u e = rw (p, q, ← e, u)
+
+-- ---- clips
+
+module _ (P : List (List ℤ)) (n : ℕ) (p : length P ≡ n) (s : List ℕ) where
+  pub clips-stop : (r l : ℕ) → stopped r l ≡ counted (clipRule n) n (2 + n) s → refused r l ≡ fromClips P s
+  clips-stop r l e = rw (p, ← e)
+
+  pub clips-go : (C : List (List ℤ)) (rest : List ℕ) → ended C rest ≡ counted (clipRule n) n (2 + n) s → fromTaps P C rest ≡ fromClips P s
+  clips-go C rest e = ap (λ x. thenRead x (λ clips rest'. fromTaps P clips rest')) e ∙ rw p
+
+-- ---- places
+
+pub too-long : (s : List ℕ) → 65536 < length s → refused 20 0 ≡ readSheet s
+unfolding readSheet
+too-long s h = rw (lt-ltb 65536 (length s) h)
+
+module _ (s : List ℕ) (h : length s ≤ 65536) where
+  pub places-stop : (r l : ℕ) → stopped r l ≡ counted placeRule 256 1 s → refused r l ≡ readSheet s
+  unfolding readSheet
+  places-stop r l e = rw (le-ltb 65536 (length s) h, ← e)
+
+  pub places-go : (P : List (List ℤ)) (rest : List ℕ) → ended P rest ≡ counted placeRule 256 1 s → fromClips P rest ≡ readSheet s
+  unfolding readSheet
+  places-go P rest e = rw (le-ltb 65536 (length s) h, ← e)
+
+-- ---- rows
+
+-- a row of the rows that are read
+pub row-at : (w n i : ℕ) (t : List ℤ) → i < n → getD (rowsOf w n t) i [] ≡ rowAt w i t
+unfolding rowsOf
+row-at w zero i t h = absurd (omega arith)
+row-at w (suc n) zero t h = let e : 0 * w ≡ 0 = omega arith in rw e
+row-at w (suc n) (suc i) t h =
+    let e : suc i * w ≡ i * w + w = suc-mul i w in
+    let f : suc i * w ≡ w + i * w = omega arith in
+    let g : i < n = omega arith in
+    row-at w n i (drop w t) g ∙ ap (take w) (drop-drop (i * w) w t ∙ ap (λ j. drop j t) (sym f))
+
+-- a number of a row
+pub cell : (w i k : ℕ) (t : List ℤ) → ltb k w ≡ true → getD (rowAt w i t) k (pos 0) ≡ getD t (i * w + k) (pos 0)
+cell w i k t h = getD-take w (drop (i * w) t) k (pos 0) (ltb-true k w h) ∙ getD-drop (i * w) t k (pos 0)
+
+pub cell-0 : (w i : ℕ) (t : List ℤ) → ltb 0 w ≡ true → getD (rowAt w i t) 0 (pos 0) ≡ getD t (i * w) (pos 0)
+cell-0 w i t h = let e : i * w + 0 ≡ i * w = omega arith in cell w i 0 t h ∙ ap (λ j. getD t j (pos 0)) e
+
+-- a row of the places
+place-row : (i : ℕ) (t : List ℤ) → _≡_ {A = PlaceLine} (record { parent = getD t (i * 11) (pos 0); orientation = getD t (i * 11 + 1) (pos 0); x = getD t (i * 11 + 2) (pos 0); y = getD t (i * 11 + 3) (pos 0); x0 = getD t (i * 11 + 4) (pos 0); y0 = getD t (i * 11 + 5) (pos 0); x1 = getD t (i * 11 + 6) (pos 0); y1 = getD t (i * 11 + 7) (pos 0); slop = getD t (i * 11 + 8) (pos 0); level = getD t (i * 11 + 9) (pos 0); flags = getD t (i * 11 + 10) (pos 0) }) (placeOf (rowAt 11 i t))
+unfolding placeOf
+place-row i t = rw (cell-0 11 i t refl, cell 11 i 1 t refl, cell 11 i 2 t refl, cell 11 i 3 t refl, cell 11 i 4 t refl, cell 11 i 5 t refl, cell 11 i 6 t refl, cell 11 i 7 t refl, cell 11 i 8 t refl, cell 11 i 9 t refl, cell 11 i 10 t refl)
+
+-- the same of numbers that are the row's
+pub place-made : (i : ℕ) (t : List ℤ) (z0 z1 z2 z3 z4 z5 z6 z7 z8 z9 z10 : ℤ) → z0 ≡ getD t (i * 11) (pos 0) → z1 ≡ getD t (i * 11 + 1) (pos 0) → z2 ≡ getD t (i * 11 + 2) (pos 0) → z3 ≡ getD t (i * 11 + 3) (pos 0) → z4 ≡ getD t (i * 11 + 4) (pos 0) → z5 ≡ getD t (i * 11 + 5) (pos 0) → z6 ≡ getD t (i * 11 + 6) (pos 0) → z7 ≡ getD t (i * 11 + 7) (pos 0) → z8 ≡ getD t (i * 11 + 8) (pos 0) → z9 ≡ getD t (i * 11 + 9) (pos 0) → z10 ≡ getD t (i * 11 + 10) (pos 0)
+    → _≡_ {A = PlaceLine} (record { parent = z0; orientation = z1; x = z2; y = z3; x0 = z4; y0 = z5; x1 = z6; y1 = z7; slop = z8; level = z9; flags = z10 }) (placeOf (rowAt 11 i t))
+place-made i t z0 z1 z2 z3 z4 z5 z6 z7 z8 z9 z10 e0 e1 e2 e3 e4 e5 e6 e7 e8 e9 e10 =
+    rw (e0, e1, e2, e3, e4, e5, e6, e7, e8, e9, e10) (place-row i t)

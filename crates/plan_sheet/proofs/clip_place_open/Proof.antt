@@ -1,0 +1,49 @@
+use Rattle.plan_sheet.specs.Told.{rowsOf}
+use Rattle.plan_sheet.specs.Sheet.{clipPlaceOpen, clipOf, within, clippedBefore}
+use lib.ListN.{getD}
+use lib.IntN.{pos}
+use mir.Val.{SFits}
+use mir.Syntax.{w64}
+use mir.ValLaws.{toZ-pos, toZ-ofZ}
+use mathlib.Core.Path.{_≡_}
+use Prim.Native.Nat.{ℕ, _+_, _-_, _≤_, _<_}
+use native.Mathlib.Omega.{arith}
+use borrow.Author.Needs.{needs}
+use Rattle.plan_sheet.proofs.clip_place_open.Statement.{statement}
+use Rattle.plan_sheet.proofs.clip_place_open.Tie as tie
+use Rattle.plan_sheet.proofs.clip_place_open.Reads as reads
+use Rattle.plan_sheet.proofs.clip_place_open.Lts as lts
+use Rattle.plan_sheet.proofs.clipped_before.Reads as clipped-before-reads
+use Rattle.plan_sheet.proofs.ranged.Reads as ranged-reads
+
+-- src/lib.rt:194:13
+element-copy-out-k : tie.Need-element-copy-out-k
+element-copy-out-k c = search needs
+
+-- src/lib.rt:195:23
+cast-ranged : tie.Need-cast-ranged
+cast-ranged c = search needs
+
+-- src/lib.rt:195:5
+ranged-requires : tie.Need-ranged-requires
+ranged-requires c κs = search needs
+
+-- src/lib.rt:195:41
+clipped-before-requires : tie.Need-clipped-before-requires
+clipped-before-requires c κs = search needs
+
+-- src/lib.rt:190:1
+returns : tie.Need-returns
+unfolding clipPlaceOpen clipOf
+returns c = let s = c .before .before .before in
+    let z = getD (s .args .row .now) 0 (pos 0) in
+    let f : s .args .places < 9223372036854775808 = search needs in
+    let g : SFits w64 z = search needs in
+    let a : c .before .ranged .result ≡ within (pos 1) (pos (s .args .places)) z = rw (toZ-pos w64 (s .args .places) f) at (c .before .ranged .ensures) in
+    let b : c .clipped-before .result ≡ clippedBefore (rowsOf 6 (s .args .n) (s .args .table .now)) z = rw (toZ-ofZ w64 z g) at (c .clipped-before .ensures) in
+    rw (a, b)
+
+pub clip-place-open-spec : {M : Type 1} → statement M
+clip-place-open-spec =
+    tie.close
+    (tie.spec element-copy-out-k cast-ranged ranged-requires clipped-before-requires returns)

@@ -1,0 +1,5 @@
+pub mod Signs
+pub mod Caps
+pub mod Spaces
+pub mod Cuts
+pub mod Bounds
