@@ -1,8 +1,8 @@
 -- The tree of a sheet: fresh, then the sheet's calls.
-use Prim.Native.Nat.{ℕ, zero, suc, _*_}
-use mathlib.Core.List.{List, [], _∷_}
+use Prim.Native.Nat.{ℕ}
+use mathlib.Core.List.{List, []}
 use lib.IntN.{ℤ}
-use lib.ListN.{take, drop}
+use lib.ListN.{take}
 use Rattle.tree_state.specs.declared.Tree.{Tree}
 use Rattle.tree_state.specs.Tree.{freshTree}
 use Rattle.tree_run.specs.Run as tree
@@ -16,17 +16,6 @@ treeUpTo s j = run tree.step freshTree (insertsFrom (s .clips) 1 (take j (s .pla
 
 unfoldable pub treeOf : Sheet → Tree
 treeOf s = run tree.step freshTree (callsOf s)
-
--- ---- rows in tables
-
--- the first n rows of a table, so many numbers each
-unfoldable pub rowsOf : ℕ → ℕ → List ℤ → List (List ℤ)
-rowsOf width zero table = []
-rowsOf width (suc n) table = take width table ∷ rowsOf width n (drop width table)
-
--- row i of a table
-abbrev pub rowAt : ℕ → List ℤ → ℕ → List ℤ
-rowAt width table i = take width (drop (width * i) table)
 
 -- a sheet's places and clips, without its taps
 abbrev pub untapped : List (List ℤ) → List (List ℤ) → Sheet

@@ -1,10 +1,8 @@
 // A tap of a sheet on the sheet's tree: the place hit and its depth.
 ghost use mathlib.Core.Path.{_≡_};
 ghost use mathlib.Core.Bool.{true};
-ghost use Prim.Native.Nat.{_<_};
 ghost use Rattle.plan_sheet.specs.Sheet as sheet;
 ghost use Rattle.sheet_calls.specs.Answers.{pointOf, askedOf};
-ghost use Rattle.sheet_laws.specs.Built.{rowAt};
 ghost use Rattle.tree_run.specs.Run as run;
 ghost use Rattle.tree_state.specs.declared.Verdict.the-variants as is;
 ghost use Rattle.tree_steps.specs.Requests as request;
@@ -18,19 +16,6 @@ use tree_taps::Tapped;
 pub struct Answered {
     pub place: usize,
     pub depth: usize,
-}
-
-// Inner: row i of the taps' table.
-pub fn tap_at(taps: &[i64; 3000], i: usize) -> TapLine
-    requires { ⌜ i < 1000 ⌝ }
-    ensures { λ r. ⌜ r ≡ sheet.tapOf (rowAt 3 (now (taps .entry)) i) ⌝ }
-{
-    let at = 3 * i;
-    TapLine {
-        x: taps[at],
-        y: taps[at + 1],
-        flags: taps[at + 2],
-    }
 }
 
 // Place k is the node (k − 1, 1).

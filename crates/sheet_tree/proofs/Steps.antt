@@ -21,7 +21,8 @@ use Rattle.plan_sheet.specs.Sheet.{Sheet, placeOf, clipOf, clipInRange, parentE
 use Rattle.sheet_calls.specs.Calls.{parentAt, localOf, clipFor, insertOf}
 use Rattle.sheet_calls.specs.Good.{Good, Fair}
 use Rattle.sheet_calls.proofs.Inserts.{passes-at}
-use Rattle.sheet_laws.specs.Built.{treeUpTo, treeOf, rowsOf, rowAt}
+use Rattle.plan_sheet.specs.Told.{rowsOf, rowAt}
+use Rattle.sheet_laws.specs.Built.{treeUpTo, treeOf}
 use Rattle.sheet_laws.proofs.Tree.{insert-accepted, insert-next, commit-last}
 use Rattle.sheet_laws.proofs.Tables.{rows-many, rows-at}
 use Rattle.sheet_tree.specs.Rows.{sheetOf, ClipsRanged, Accepted}
@@ -59,17 +60,17 @@ module _ (places : List ℤ) (n : ℕ) (clips : List ℤ) (m : ℕ) (g : Good (s
       ap (λ (r : List ℤ). clipInRange (clipOf r)) (sym (rows-at 6 m clips i h)) ∙ f .ranged
 
   module _ (i : ℕ) (h : i < n) where
-    row : Fair placeRule (take i (rowsOf 11 n places)) (rowAt 11 places i)
+    row : Fair placeRule (take i (rowsOf 11 n places)) (rowAt 11 i places)
     row = subst (λ (r : List ℤ). Fair placeRule (take i (rowsOf 11 n places)) r) (rows-at 11 n places i h) (passes-at placeRule [] (rowsOf 11 n places) (g .places) i (omega (arith, rows-many 11 n places)))
 
     low : i < length (rowsOf 11 n places)
     low = omega (arith, rows-many 11 n places)
 
     -- its insert is accepted
-    pub place-accepted : Accepted (treeUpTo (sheetOf places n clips m) i) (placeOf (rowAt 11 places i)) (clipFor (rowsOf 6 m clips) (suc i))
+    pub place-accepted : Accepted (treeUpTo (sheetOf places n clips m) i) (placeOf (rowAt 11 i places)) (clipFor (rowsOf 6 m clips) (suc i))
     unfolding tree.verdict insertOf
     place-accepted =
-        let p = placeOf (rowAt 11 places i) in
+        let p = placeOf (rowAt 11 i places) in
         let t = parent-told (take i (rowsOf 11 n places)) p (row .fitting) in
         let l : length (take i (rowsOf 11 n places)) ≡ i = length-take-le i (rowsOf 11 n places) (omega (arith, low)) in
         record {
@@ -80,7 +81,7 @@ module _ (places : List ℤ) (n : ℕ) (clips : List ℤ) (m : ℕ) (g : Good (s
         }
 
     -- and leaves the tree of one place more
-    pub place-next : insertTree (treeUpTo (sheetOf places n clips m) i) (parentAt (natAbs (placeOf (rowAt 11 places i) .parent))) (localOf (placeOf (rowAt 11 places i)) (clipFor (rowsOf 6 m clips) (suc i)))
+    pub place-next : insertTree (treeUpTo (sheetOf places n clips m) i) (parentAt (natAbs (placeOf (rowAt 11 i places) .parent))) (localOf (placeOf (rowAt 11 i places)) (clipFor (rowsOf 6 m clips) (suc i)))
         ≡ treeUpTo (sheetOf places n clips m) (suc i)
     unfolding tree.accepted insertOf
     place-next =

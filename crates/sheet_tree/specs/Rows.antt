@@ -11,7 +11,8 @@ use Rattle.tree_steps.specs.Structure.{insertVerdict}
 use Rattle.plan_sheet.specs.declared.PlaceLine.{PlaceLine}
 use Rattle.plan_sheet.specs.Sheet.{Sheet, clipOf, clipInRange, placeInRange}
 use Rattle.sheet_calls.specs.Calls.{parentAt, localOf}
-use Rattle.sheet_laws.specs.Built.{rowsOf, rowAt, untapped}
+use Rattle.plan_sheet.specs.Told.{rowsOf, rowAt}
+use Rattle.sheet_laws.specs.Built.{untapped}
 
 -- n places and m clips
 abbrev pub sheetOf : List ℤ → ℕ → List ℤ → ℕ → Sheet
@@ -19,7 +20,7 @@ sheetOf places n clips m = untapped (rowsOf 11 n places) (rowsOf 6 m clips)
 
 -- each of the first m clip rows is in range
 abbrev pub ClipsRanged : List ℤ → ℕ → Type 0
-ClipsRanged clips m = (i : ℕ) → i < m → clipInRange (clipOf (rowAt 6 clips i)) ≡ true
+ClipsRanged clips m = (i : ℕ) → i < m → clipInRange (clipOf (rowAt 6 i clips)) ≡ true
 
 -- a place's line whose insert, with that clip, nothing refuses
 pub record Accepted (t : Tree) (p : PlaceLine) (c : Clip) : Type 0 where

@@ -10,7 +10,7 @@ use mir.Facts.{toZ-ofZ}
 use Rattle.plan_sheet.specs.declared.ClipLine.{ClipLine}
 use Rattle.plan_sheet.specs.Sheet.{clipOf, clipInRange}
 use Rattle.sheet_calls.specs.Calls.{equal, clipOn}
-use Rattle.sheet_laws.specs.Built.{rowAt}
+use Rattle.plan_sheet.specs.Told.{rowAt}
 use Rattle.sheet_laws.proofs.Tables.{clipFrom, none-left, this-one, not-this}
 use Rattle.sheet_tree.proofs.clip_for.Statement.{statement}
 use Rattle.sheet_tree.proofs.clip_for.Tie as tie
@@ -32,7 +32,7 @@ is-place-requires c κs = c .before .before .before .before .pre .1
 
 -- the row's own place
 told : (c : tie.After-is-place Inv-loop μ-loop) → let s = c .before .before .before .before .before in
-    c .is-place .result ≡ equal (clipOf (rowAt 6 (s .args .clips .now) (c .before .before .before .before .loop .i)) .place) (pos (s .args .k))
+    c .is-place .result ≡ equal (clipOf (rowAt 6 (c .before .before .before .before .loop .i) (s .args .clips .now)) .place) (pos (s .args .k))
 told c =
     let a = c .before .before in
     let k = c .before .before .before .before .before .args .k in

@@ -11,7 +11,8 @@ use Rattle.plan_sheet.specs.Sheet.{placeOf}
 use Rattle.tree_state.specs.declared.Tree.{Tree}
 use Rattle.tree_steps.specs.Structure.{insertTree}
 use Rattle.sheet_calls.specs.Calls.{clipFor, parentAt, localOf}
-use Rattle.sheet_laws.specs.Built.{treeUpTo, rowsOf, rowAt}
+use Rattle.plan_sheet.specs.Told.{rowsOf, rowAt}
+use Rattle.sheet_laws.specs.Built.{treeUpTo}
 use Rattle.sheet_laws.proofs.Tree.{fresh-start}
 use Rattle.sheet_tree.specs.Rows.{sheetOf, Accepted}
 use Rattle.sheet_tree.proofs.Steps.{few-places, few-clips, clips-ranged, place-accepted, place-next}
@@ -50,7 +51,7 @@ clip-for-requires c κs =
     (few s .1, omega (arith, few s .0), clips-ranged (A .places .now) (A .n) (A .clips .now) (A .m) (s .pre))
 
 -- the row's line and clip
-line : (c : tie.After-place-at Inv-loop μ-loop) → c .place-at .result ≡ placeOf (rowAt 11 (c .before .before .before .before .args .places .now) (c .before .before .loop .i))
+line : (c : tie.After-place-at Inv-loop μ-loop) → c .place-at .result ≡ placeOf (rowAt 11 (c .before .before .loop .i) (c .before .before .before .before .args .places .now))
 line c = c .place-at .ensures
 
 clip : (c : tie.After-clip-for Inv-loop μ-loop) → let l = c .before .before .before in
@@ -87,7 +88,7 @@ loop-again c =
     let i = l .loop .i in
     let S = sheetOf (A .places .now) (A .n) (A .clips .now) (A .m) in
     (omega arith,
-    next (l .loop .t) (treeUpTo S i) (c .insert-place .result) (k .before .place-at .result) (placeOf (rowAt 11 (A .places .now) i)) (k .clip-for .result) (clipFor (rowsOf 6 (A .m) (A .clips .now)) (suc i))
+    next (l .loop .t) (treeUpTo S i) (c .insert-place .result) (k .before .place-at .result) (placeOf (rowAt 11 i (A .places .now))) (k .clip-for .result) (clipFor (rowsOf 6 (A .m) (A .clips .now)) (suc i))
     (l .loop .inv .1) (line (k .before)) (clip k) (c .insert-place .ensures)
     ∙ place-next (A .places .now) (A .n) (A .clips .now) (A .m) (s .pre) i (k .before .before .loop-test .taken)
     ∙ ap (treeUpTo S) (sym (add-one i)))
