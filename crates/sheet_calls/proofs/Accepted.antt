@@ -111,6 +111,10 @@ counted-few most lines r = go (r .rows) (r .many) (r .passes) (r .all)
         subst (λ (l : List (List ℤ)). countOn l ≤ most) (sym e)
         (count-most most z (and-left (leZ (pos 0) z) (leZ z (pos most)) h) (and-right (leZ (pos 0) z) (leZ z (pos most)) h))
 
+-- the count line that was read
+pub count-few : (most at : ℕ) (s : List ℕ) (lines : List (List ℤ)) (rest : List ℕ) → section (countRule most) 1 [] at s ≡ ended lines rest → countOn lines ≤ most
+count-few most at s lines rest e = counted-few most lines (section-rows (countRule most) 1 [] at s lines rest e)
+
 pub record Counted (rule : Rule) (most : ℕ) (lines : List (List ℤ)) : Type 0 where
   pub few : length lines ≤ most
   pub passes : Passes rule [] lines

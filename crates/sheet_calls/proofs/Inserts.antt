@@ -40,11 +40,13 @@ pub record Grown (k : ℕ) (p : Plan) : Type 0 where
   pub free : p .slots .free ≡ []
   pub first : (x : ℕ) → x < k → p .slots .generation x ≡ 1
   pub there : (x : ℕ) → x < k → has x (p .links) ≡ true
+  pub only : (x : ℕ) → has x (p .links) ≡ true → x < k
   pub many : length (nodes p) ≡ k
 
 pub grown-empty : Grown 0 empty
-unfolding pre
-grown-empty = record { used = refl; free = refl; first = λ x h. absurd (omega arith); there = λ x h. absurd (omega arith); many = refl }
+unfolding pre has
+grown-empty =
+    record { used = refl; free = refl; first = λ x h. absurd (omega arith); there = λ x h. absurd (omega arith); only = λ x h. clash (sym h); many = refl }
 
 module _ (k : ℕ) (p : Plan) (G : Grown k p) where
   pub new-slot : newSlot p ≡ k
@@ -90,6 +92,26 @@ onto-there : (h x s k : ℕ) (f : Forest) → s ≡ k → h ≤ k → ((y : ℕ)
 onto-there zero x s k f e le old lt = has-cat x f (leaf s) ∙ there-with x k s f e lt (old x)
 onto-there (suc h) x s k f e le old lt = has-under x h (leaf s) f (old h (omega arith)) ∙ there-with x k s f e lt (old x)
 
+leaf-has : (x y : ℕ) → has x (leaf y) ≡ true → x ≡ y
+unfolding has
+leaf-has x y e =
+    elim (ℕ-discrete y x) [
+      | yes q ↦ sym q
+      | no n ↦ clash (sym (let f : either (eqb y x) (either false false) ≡ false = rw (ne-eqb y x n) in sym f ∙ e))
+    ]
+
+only-with : (x k s : ℕ) (f : Forest) → s ≡ k → ((y : ℕ) → has y f ≡ true → y < k) → either (has x f) (has x (leaf s)) ≡ true → x < suc k
+only-with x k s f e old h = go (has x f) refl h
+  where
+    go : (b : Bool) → has x f ≡ b → either b (has x (leaf s)) ≡ true → x < suc k
+    go true q r = omega (arith, old x q)
+    go false q r = omega (arith, leaf-has x s r, e)
+
+onto-only : (h x s k : ℕ) (f : Forest) → s ≡ k → h ≤ k → ((y : ℕ) → y < k → has y f ≡ true) → ((y : ℕ) → has y f ≡ true → y < k)
+    → has x (onto (parentAt h) (leaf s) f) ≡ true → x < suc k
+onto-only zero x s k f e le old low q = only-with x k s f e low (sym (has-cat x f (leaf s)) ∙ q)
+onto-only (suc h) x s k f e le old low q = only-with x k s f e low (sym (has-under x h (leaf s) f (old h (omega arith))) ∙ q)
+
 onto-many : (h s k : ℕ) (f : Forest) → h ≤ k → ((y : ℕ) → y < k → has y f ≡ true) → length (pre (onto (parentAt h) (leaf s) f)) ≡ suc (length (pre f))
 unfolding pre
 onto-many zero s k f le old = ap length (pre-cat f (leaf s)) ∙ simp length-append (omega arith)
@@ -113,6 +135,7 @@ grown-insert k p h v G le =
       free = rw (G .free);
       first = λ x lt. rw (G .free) (put-first (p .slots .generation) x (p .slots .used) k (G .used) lt (G .first x));
       there = λ x lt. onto-there h x (newSlot p) k (p .links) (new-slot k p G) le (G .there) lt;
+      only = λ x q. onto-only h x (newSlot p) k (p .links) (new-slot k p G) le (G .there) (G .only) q;
       many = onto-many h (newSlot p) k (p .links) le (G .there) ∙ ap suc (G .many);
     }
 
