@@ -12,9 +12,10 @@ use Rattle.tree_state.specs.declared.Tree.{Tree}
 use Rattle.plan.specs.Plan.{Plan}
 use Rattle.plan.specs.Afresh.{Tap}
 use Rattle.plan_sheet.specs.declared.TapLine.{TapLine}
+use Rattle.plan_sheet.specs.declared.Parsed.{Parsed}
 use Rattle.plan_sheet.specs.Sheet.{Sheet, tapOf, tapInRange, tapRule}
 use Rattle.plan_sheet.specs.Told.{rowsOf, rowAt}
-use Rattle.sheet_calls.specs.Answers.{planOf, tapOn, askedOf, pointOf, placeHit, depthHit, decimal, lineOf, tapLines}
+use Rattle.sheet_calls.specs.Answers.{planOf, tapOn, askedOf, pointOf, placeHit, depthHit, decimal, lineOf, tapLines, sheetText}
 use Rattle.sheet_calls.specs.Good.{Good, Fair, Passes}
 use Rattle.sheet_calls.proofs.Finite.{tap-ranges, asked-known}
 use Rattle.sheet_calls.proofs.Inserts.{passes-at}
@@ -23,7 +24,7 @@ use Rattle.sheet_laws.specs.Built.{treeOf}
 use Rattle.sheet_laws.proofs.Tree.{tap-accepted, tap-found}
 use Rattle.sheet_laws.proofs.Tables.{rows-many, rows-at}
 use Rattle.sheet_text.proofs.Digits.{short}
-use Rattle.sheet_answers.specs.Text.{found, tapLine, tapText, Ready, AllReady}
+use Rattle.sheet_answers.specs.Text.{found, tapLine, tapText, Ready, AllReady, sheetOf}
 
 -- ---- lengths
 
@@ -95,3 +96,18 @@ taps-ready s g taps n e i h =
       place = subst (λ (a : Tap). placeHit a ≤ 256) (sym q) (b .0);
       depth = subst (λ (a : Tap). depthHit a ≤ 256) (sym q) (b .1);
     }
+
+-- the whole text of a good sheet
+pub sheet-text : (p : Parsed) → Good (sheetOf p) → lineOf (p .tapped ∷ []) ++ tapText (treeOf (sheetOf p)) 1 (rowsOf 3 (p .tapped) (p .taps)) ≡ sheetText (sheetOf p)
+unfolding sheetText
+sheet-text p g =
+    let rows = rowsOf 3 (p .tapped) (p .taps) in
+    ap (λ (n : ℕ). lineOf (n ∷ []) ++ tapText (treeOf (sheetOf p)) 1 rows) (sym (rows-many 3 (p .tapped) (p .taps)))
+    ∙ ap (λ (l : List ℕ). lineOf (length rows ∷ []) ++ l) (text-same (sheetOf p) 1 [] rows (g .taps))
+
+pub few-taps : (p : Parsed) → Good (sheetOf p) → p .tapped ≤ 1000
+few-taps p g = omega (arith, g .few-taps, rows-many 3 (p .tapped) (p .taps))
+
+pub short-count : (n : ℕ) → n < 10000 → length (lineOf (n ∷ [])) ≤ 5
+unfolding lineOf
+short-count n h = short-mark n 10 h

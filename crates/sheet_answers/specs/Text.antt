@@ -12,8 +12,8 @@ use Rattle.tree_steps.specs.Requests as request
 use Rattle.tree_run.specs.Run as run
 use Rattle.plan.specs.Afresh.{Tap}
 use Rattle.plan_sheet.specs.declared.TapLine.{TapLine}
-use Rattle.plan_sheet.specs.Sheet.{Sheet, tapOf, tapInRange}
-use Rattle.plan_sheet.specs.Told.{rowsOf, rowAt}
+use Rattle.plan_sheet.specs.Sheet.{Sheet, tapOf, tapInRange, readSheet}
+use Rattle.plan_sheet.specs.Told.{rowsOf, rowAt, told}
 use Rattle.plan_sheet.specs.declared.Parsed.{Parsed}
 use Rattle.sheet_calls.specs.Answers.{askedOf, pointOf, placeHit, depthHit, lineOf, output}
 use Rattle.sheet_answers.specs.declared.Written.{Written}
@@ -45,6 +45,10 @@ AllReady t taps n = (i : ℕ) → i < n → Ready t (tapOf (rowAt 3 i taps))
 -- the sheet that was read
 abbrev pub sheetOf : Parsed → Sheet
 sheetOf p = record { places = rowsOf 11 (p .placed) (p .places); clips = rowsOf 6 (p .clipped) (p .clips); taps = rowsOf 3 (p .tapped) (p .taps) }
+
+-- what some bytes were read as
+abbrev pub FromBytes : Parsed → Type 0
+FromBytes p = (s : List ℕ) × (told p ≡ readSheet s)
 
 -- ---- the call
 

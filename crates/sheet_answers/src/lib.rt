@@ -3,7 +3,7 @@ ghost use mathlib.Core.Path.{_≡_};
 ghost use Prim.Native.Nat.{_+_, _<_, _≤_};
 ghost use lib.ListN.{length};
 ghost use Rattle.plan_sheet.specs.Sheet as sheet;
-ghost use Rattle.plan_sheet.specs.Told.{numberOf, rowsOf, rowAt};
+ghost use Rattle.plan_sheet.specs.Told.{numberOf, rowsOf, rowAt, told};
 ghost use Rattle.sheet_calls.specs.Answers as text;
 ghost use Rattle.sheet_calls.specs.Good.{Good};
 ghost use Rattle.sheet_text.specs.Text.{Stored};
@@ -93,4 +93,31 @@ fn put_refused(why: Refusal, line: usize, room: &mut [u8]) -> usize
 {
     put_word(room);
     sheet_text::put_pair(room, 8, number(why), line)
+}
+
+// ---- the answer
+
+// The text of what was read.
+fn put_read(p: Parsed, room: &mut [u8]) -> usize
+    requires { ⌜ spec.FromBytes p × (16384 ≤ length (now room)) ⌝ }
+    ensures { λ r. ⌜ Stored (now (room .entry)) (now (room .exit)) 0 r (text.readText (told p)) ⌝ }
+{
+    let answer = p.answer;
+    match answer {
+        Answer::Refused(why, line) => put_refused(why, line, room),
+        Answer::Sheet => put_sheet(p, room),
+    }
+}
+
+// The text that the bytes are answered with, in front of the room.
+pub fn answer_into(s: &[u8], room: &mut [u8]) -> Written
+    ensures answer { λ r. ⌜ r ≡ spec.writtenIf (spec.roomy (now (room .entry))) (length (text.output (now (s .entry)))) ⌝ }
+    ensures room { λ _. ⌜ now (room .exit) ≡ spec.roomIf (spec.roomy (now (room .entry))) (text.output (now (s .entry))) (now (room .entry)) ⌝ }
+{
+    if room.len() < 16384 {
+        return Written::ShortRoom;
+    }
+    let p = sheet_reader::read_sheet(s);
+    let n = put_read(p, room);
+    Written::Bytes(n)
 }
