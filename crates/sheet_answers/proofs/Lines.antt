@@ -13,18 +13,22 @@ use Rattle.plan.specs.Plan.{Plan}
 use Rattle.plan.specs.Afresh.{Tap}
 use Rattle.plan_sheet.specs.declared.TapLine.{TapLine}
 use Rattle.plan_sheet.specs.declared.Parsed.{Parsed}
-use Rattle.plan_sheet.specs.Sheet.{Sheet, tapOf, tapInRange, tapRule}
-use Rattle.plan_sheet.specs.Told.{rowsOf, rowAt}
+use Rattle.plan_sheet.specs.Sheet.{Sheet, refused, sheet, tapOf, tapInRange, tapRule}
+use Rattle.plan_sheet.specs.declared.Refusal.{Refusal}
+use Rattle.plan_sheet.specs.declared.Answer.the-variants as answer
+use Rattle.plan_sheet.specs.Told.{rowsOf, rowAt, told, numberOf}
 use Rattle.sheet_calls.specs.Answers.{planOf, tapOn, askedOf, pointOf, placeHit, depthHit, decimal, lineOf, tapLines, sheetText}
 use Rattle.sheet_calls.specs.Good.{Good, Fair, Passes}
 use Rattle.sheet_calls.proofs.Finite.{tap-ranges, asked-known}
 use Rattle.sheet_calls.proofs.Inserts.{passes-at}
-use Rattle.sheet_calls.proofs.Bounds.{tap-short}
+use Rattle.sheet_calls.proofs.Accepted.{good-sheet}
+use Rattle.sheet_calls.proofs.Bounds.{tap-short, refusal-small}
 use Rattle.sheet_laws.specs.Built.{treeOf}
 use Rattle.sheet_laws.proofs.Tree.{tap-accepted, tap-found}
 use Rattle.sheet_laws.proofs.Tables.{rows-many, rows-at}
+use Rattle.sheet_text.specs.Text.{Stored}
 use Rattle.sheet_text.proofs.Digits.{short}
-use Rattle.sheet_answers.specs.Text.{found, tapLine, tapText, Ready, AllReady, sheetOf}
+use Rattle.sheet_answers.specs.Text.{found, tapLine, tapText, Ready, AllReady, sheetOf, FromBytes}
 
 -- ---- lengths
 
@@ -111,3 +115,22 @@ few-taps p g = omega (arith, g .few-taps, rows-many 3 (p .tapped) (p .taps))
 pub short-count : (n : ℕ) → n < 10000 → length (lineOf (n ∷ [])) ≤ 5
 unfolding lineOf
 short-count n h = short-mark n 10 h
+
+-- ---- what was read
+
+pub told-refused : (p : Parsed) (w : Refusal) (l : ℕ) → p .answer ≡ answer.Refused w l → told p ≡ refused (numberOf w) l
+told-refused p w l e = rw e
+
+pub told-sheet : (p : Parsed) → p .answer ≡ answer.Sheet → told p ≡ sheet (sheetOf p)
+told-sheet p e = rw e
+
+pub line-low : (p : Parsed) → FromBytes p → (w : Refusal) (l : ℕ) → p .answer ≡ answer.Refused w l → l < 10000
+line-low p f w l e = omega (arith, refusal-small (f .0) (numberOf w) l (sym (f .1) ∙ told-refused p w l e) .line)
+
+pub good-read : (p : Parsed) → FromBytes p → p .answer ≡ answer.Sheet → Good (sheetOf p)
+good-read p f e = good-sheet (f .0) (sheetOf p) (sym (f .1) ∙ told-sheet p e)
+
+-- ---- the whole text stands in front of the room
+
+pub in-front : (old new : List ℕ) (r : ℕ) (text : List ℕ) → Stored old new 0 r text → length text ≤ length old → new ≡ text ++ drop (length text) old
+in-front old new r text S h = S .room ∙ sets-eq text old 0 (omega arith) ∙ ap (λ (n : ℕ). text ++ drop n old) (let e : 0 + length text ≡ length text = omega arith in e)
