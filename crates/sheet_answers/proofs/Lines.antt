@@ -5,6 +5,8 @@ use mathlib.Core.Bool.{true, false}
 use mathlib.Core.List.{List, [], _∷_, _++_, append-assoc, append-nil}
 use native.Mathlib.Omega.{arith}
 use native.Mathlib.Numerals.{add-one}
+use lib.Dec.{ltb}
+use borrow.Author.Tests.{ltb-false}
 use lib.IntN.{ℤ}
 use lib.ListN.{length, getD, take, drop, length-append}
 use lib.Seq.{take-suc, take-length, length-take-le, sets, sets-eq}
@@ -13,11 +15,11 @@ use Rattle.plan.specs.Plan.{Plan}
 use Rattle.plan.specs.Afresh.{Tap}
 use Rattle.plan_sheet.specs.declared.TapLine.{TapLine}
 use Rattle.plan_sheet.specs.declared.Parsed.{Parsed}
-use Rattle.plan_sheet.specs.Sheet.{Sheet, refused, sheet, tapOf, tapInRange, tapRule}
+use Rattle.plan_sheet.specs.Sheet.{Sheet, Read, refused, sheet, readSheet, tapOf, tapInRange, tapRule}
 use Rattle.plan_sheet.specs.declared.Refusal.{Refusal}
 use Rattle.plan_sheet.specs.declared.Answer.the-variants as answer
 use Rattle.plan_sheet.specs.Told.{rowsOf, rowAt, told, numberOf}
-use Rattle.sheet_calls.specs.Answers.{planOf, tapOn, askedOf, pointOf, placeHit, depthHit, decimal, lineOf, tapLines, sheetText}
+use Rattle.sheet_calls.specs.Answers.{planOf, tapOn, askedOf, pointOf, placeHit, depthHit, decimal, lineOf, tapLines, sheetText, readText, bytes, output}
 use Rattle.sheet_calls.specs.Good.{Good, Fair, Passes}
 use Rattle.sheet_calls.proofs.Finite.{tap-ranges, asked-known}
 use Rattle.sheet_calls.proofs.Inserts.{passes-at}
@@ -28,7 +30,8 @@ use Rattle.sheet_laws.proofs.Tree.{tap-accepted, tap-found}
 use Rattle.sheet_laws.proofs.Tables.{rows-many, rows-at}
 use Rattle.sheet_text.specs.Text.{Stored}
 use Rattle.sheet_text.proofs.Digits.{short}
-use Rattle.sheet_answers.specs.Text.{found, tapLine, tapText, Ready, AllReady, sheetOf, FromBytes}
+use Rattle.sheet_answers.specs.Text.{found, tapLine, tapText, Ready, AllReady, sheetOf, FromBytes, writtenIf, roomIf, roomy}
+use Rattle.sheet_answers.specs.declared.Written.the-variants as written
 
 -- ---- lengths
 
@@ -134,3 +137,57 @@ good-read p f e = good-sheet (f .0) (sheetOf p) (sym (f .1) ∙ told-sheet p e)
 
 pub in-front : (old new : List ℕ) (r : ℕ) (text : List ℕ) → Stored old new 0 r text → length text ≤ length old → new ≡ text ++ drop (length text) old
 in-front old new r text S h = S .room ∙ sets-eq text old 0 (omega arith) ∙ ap (λ (n : ℕ). text ++ drop n old) (let e : 0 + length text ≡ length text = omega arith in e)
+
+-- ---- the text is at most 16,384 bytes long
+
+tap-lines-short : (s : Sheet) → Good s → (k : ℕ) (rows : List (List ℤ)) → k + length rows ≤ 9999 → length (tapLines (planOf s) k rows) ≤ 15 * length rows
+unfolding tapLines
+tap-lines-short s g k [] h = omega arith
+tap-lines-short s g k (zs ∷ rows) h =
+    let hit = tapOn (planOf s) (tapOf zs) in
+    let b = tap-short s g (tapOf zs) in
+    let line = lineOf (k ∷ placeHit hit ∷ depthHit hit ∷ []) in
+    let rest = tapLines (planOf s) (suc k) rows in
+    let e : length (line ++ rest) ≡ length line + length rest = length-append line rest in
+    omega (arith, e, short-line k (placeHit hit) (depthHit hit) (omega arith) (omega (arith, b .0)) (omega (arith, b .1)), tap-lines-short s g (suc k) rows (omega arith))
+
+sheet-short : (s : Sheet) → Good s → length (sheetText s) ≤ 16384
+unfolding sheetText
+sheet-short s g =
+    let first = lineOf (length (s .taps) ∷ []) in
+    let rest = tapLines (planOf s) 1 (s .taps) in
+    let e : length (first ++ rest) ≡ length first + length rest = length-append first rest in
+    omega (arith, e, g .few-taps, short-count (length (s .taps)) (omega (arith, g .few-taps)), tap-lines-short s g 1 (s .taps) (omega (arith, g .few-taps)))
+
+pair-short : (n m : ℕ) → n < 10000 → m < 10000 → length (lineOf (n ∷ m ∷ [])) ≤ 10
+unfolding lineOf
+pair-short n m a b =
+    let last = decimal m ++ 10 ∷ [] in
+    let e : length (decimal n ++ 32 ∷ last) ≡ length (decimal n) + suc (length last) = length-append (decimal n) (32 ∷ last) in
+    omega (arith, e, short n a, short-mark m 10 b)
+
+pub output-short : (b : List ℕ) → length (output b) ≤ 16384
+unfolding output
+output-short b = go (readSheet b) refl
+  where
+    go : (r : Read) → readSheet b ≡ r → length (readText r) ≤ 16384
+    go (sheet s) e = sheet-short s (good-sheet b s e)
+    go (refused n l) e =
+        let z = refusal-small b n l e in
+        let f : length (bytes "refused " ++ lineOf (n ∷ l ∷ [])) ≡ 8 + length (lineOf (n ∷ l ∷ [])) = length-append (bytes "refused ") (lineOf (n ∷ l ∷ [])) in
+        omega (arith, f, pair-short n l (omega (arith, z .number)) (omega (arith, z .line)))
+
+-- ---- the answer
+
+module _ (s room : List ℕ) where
+  pub short-answer : ltb (length room) 16384 ≡ true → (written.ShortRoom ≡ writtenIf (roomy room) (length (output s))) × (room ≡ roomIf (roomy room) (output s) room)
+  short-answer e = (rw e, rw e)
+
+  pub full-answer : ltb (length room) 16384 ≡ false → (p : Parsed) (new : List ℕ) (n : ℕ) → told p ≡ readSheet s → Stored room new 0 n (readText (told p))
+      → (written.Bytes n ≡ writtenIf (roomy room) (length (output s))) × (new ≡ roomIf (roomy room) (output s) room)
+  unfolding output
+  full-answer e p new n f S =
+      let T : Stored room new 0 n (output s) = subst (λ (r : Read). Stored room new 0 n (readText r)) f S in
+      let c : n ≡ length (output s) = omega (arith, T .behind) in
+      let long : length (output s) ≤ length room = omega (arith, ltb-false (length room) 16384 e, output-short s) in
+      (rw (e, c), rw e (in-front room new n (output s) T long))

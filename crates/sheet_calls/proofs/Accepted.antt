@@ -77,6 +77,7 @@ section-rows rule (suc n) before at s lines rest e = onCut (λ zs after q. secti
   where
     Later : Type 0
     Later = (zs : List ℤ) (after : List ℕ) → section rule n (before ++ zs ∷ []) (suc at) after ≡ ended lines rest → Rows rule n (before ++ zs ∷ []) lines
+
     more : (zs : List ℤ) → Fair rule before zs → Rows rule n (before ++ zs ∷ []) lines → Rows rule (suc n) before lines
     more zs f r =
         record {
@@ -85,9 +86,11 @@ section-rows rule (suc n) before at s lines rest e = onCut (λ zs after q. secti
           many = ap suc (r .many);
           passes = (f, r .passes);
         }
+
     onGood : Later → (l after : List ℕ) (j : Judged) → judge rule before l ≡ j → onJudged at (λ zs. section rule n (before ++ zs ∷ []) (suc at) after) j ≡ ended lines rest → Rows rule (suc n) before lines
     onGood later l after (bad r) w q = never-ended q
     onGood later l after (good zs) w q = more zs (fair-line rule before l zs w) (later zs after q)
+
     onCut : Later → (k : Cut) → onLine rule before at (λ zs after. section rule n (before ++ zs ∷ []) (suc at) after) k ≡ ended lines rest → Rows rule (suc n) before lines
     onCut later without q = never-ended q
     onCut later (line l after) q = onGood later l after (judge rule before l) refl q
@@ -144,11 +147,13 @@ good-sheet b s e = short (ltb 65536 (length b)) e
   where
     Lines : Type 0
     Lines = List (List ℤ)
+
     last : (places clips taps : Lines) (n : ℕ) (rest : List ℕ) → Counted placeRule 256 places → Counted (clipRule (length places)) (length places) clips → Counted tapRule 1000 taps
         → atEnd n (record { places = places; clips = clips; taps = taps }) rest ≡ sheet s → Good s
     last places clips taps n rest p c t q =
         subst Good (at-end n (record { places = places; clips = clips; taps = taps }) s rest q)
         (record { few-places = p .few; few-clips = c .few; few-taps = t .few; places = p .passes; clips = c .passes; taps = t .passes })
+
     third : (places clips : Lines) (s₂ : List ℕ) → Counted placeRule 256 places → Counted (clipRule (length places)) (length places) clips → (k : Section)
         → let m = length places + length clips in counted tapRule 1000 (3 + m) s₂ ≡ k
         → thenRead k (λ taps s₃. atEnd (4 + m + length taps) (record { places = places; clips = clips; taps = taps }) s₃) ≡ sheet s → Good s
@@ -156,6 +161,7 @@ good-sheet b s e = short (ltb 65536 (length b)) e
     third places clips s₂ p c (ended taps s₃) w q =
         let m = length places + length clips in
         last places clips taps (4 + m + length taps) s₃ p c (counted-rows tapRule 1000 (3 + m) s₂ taps s₃ w) q
+
     second : (places : Lines) (s₁ : List ℕ) → Counted placeRule 256 places → (k : Section)
         → let n = length places in counted (clipRule n) n (2 + n) s₁ ≡ k
         → thenRead k (λ clips s₂. let m = n + length clips in thenRead (counted tapRule 1000 (3 + m) s₂) (λ taps s₃. atEnd (4 + m + length taps) (record { places = places; clips = clips; taps = taps }) s₃)) ≡ sheet s → Good s
@@ -163,12 +169,14 @@ good-sheet b s e = short (ltb 65536 (length b)) e
     second places s₁ p (ended clips s₂) w q =
         let n = length places in
         third places clips s₂ p (counted-rows (clipRule n) n (2 + n) s₁ clips s₂ w) (counted tapRule 1000 (3 + (n + length clips)) s₂) refl q
+
     first : (k : Section) → counted placeRule 256 1 b ≡ k
         → thenRead k (λ places s₁. let n = length places in thenRead (counted (clipRule n) n (2 + n) s₁) (λ clips s₂. let m = n + length clips in thenRead (counted tapRule 1000 (3 + m) s₂) (λ taps s₃. atEnd (4 + m + length taps) (record { places = places; clips = clips; taps = taps }) s₃))) ≡ sheet s → Good s
     first (stopped r n) w q = never-sheet q
     first (ended places s₁) w q =
         let n = length places in
         second places s₁ (counted-rows placeRule 256 1 b places s₁ w) (counted (clipRule n) n (2 + n) s₁) refl q
+
     short : (k : Bool) → cond k (refused 20 0) (thenRead (counted placeRule 256 1 b) (λ places s₁. let n = length places in thenRead (counted (clipRule n) n (2 + n) s₁) (λ clips s₂. let m = n + length clips in thenRead (counted tapRule 1000 (3 + m) s₂) (λ taps s₃. atEnd (4 + m + length taps) (record { places = places; clips = clips; taps = taps }) s₃)))) ≡ sheet s → Good s
     short true q = never-sheet q
     short false q = first (counted placeRule 256 1 b) refl q

@@ -60,6 +60,7 @@ all-largest P p (x ∷ xs) h = go (largest p xs) (all-largest P p xs (h .1))
     pick : (y : ℕ) (b : Bool) → P y → P (cond b x y)
     pick y true q = h .0
     pick y false q = q
+
     go : (best : Hit) → HitOf P best → HitOf P (better p x best)
     go Hit.nothing q = h .0
     go (Hit.node y) q = pick y (larger p x y) q
@@ -133,9 +134,11 @@ section-small rule (suc n) before at s r k most e h = onCut (λ zs after q. sect
   where
     Later : Type 0
     Later = (zs : List ℤ) (after : List ℕ) → section rule n (before ++ zs ∷ []) (suc at) after ≡ stopped r k → Small r k most
+
     onBad : Later → (l after : List ℕ) (j : Judged) → judge rule before l ≡ j → onJudged at (λ zs. section rule n (before ++ zs ∷ []) (suc at) after) j ≡ stopped r k → Small r k most
     onBad later l after (bad q) w f = small-at q at r k most f (bad-small rule before (fields (rule .width) l) q w) (omega arith)
     onBad later l after (good zs) w f = later zs after f
+
     onCut : Later → (c : Cut) → onLine rule before at (λ zs after. section rule n (before ++ zs ∷ []) (suc at) after) c ≡ stopped r k → Small r k most
     onCut later without f = small-at 21 at r k most f (omega arith) (omega arith)
     onCut later (line l after) f = onBad later l after (judge rule before l) refl f
@@ -164,9 +167,11 @@ refusal-small b r at e = short (ltb 65536 (length b)) e
   where
     Lines : Type 0
     Lines = List (List ℤ)
+
     last : (n : ℕ) (whole : Sheet) (rest : List ℕ) → n ≤ 9999 → atEnd n whole rest ≡ refused r at → Small r at 9999
     last n whole [] h q = sheet-apart q
     last n whole (x ∷ rest) h q = stop-small 24 n r at q (record { number = omega arith; line = h })
+
     third : (places clips : Lines) (s₂ : List ℕ) → length places ≤ 256 → length clips ≤ 256 → (k : Section)
         → let m = length places + length clips in counted tapRule 1000 (3 + m) s₂ ≡ k
         → thenRead k (λ taps s₃. atEnd (4 + m + length taps) (record { places = places; clips = clips; taps = taps }) s₃) ≡ refused r at → Small r at 9999
@@ -176,6 +181,7 @@ refusal-small b r at e = short (ltb 65536 (length b)) e
     third places clips s₂ p c (ended taps s₃) w q =
         let m = length places + length clips in
         last (4 + m + length taps) (record { places = places; clips = clips; taps = taps }) s₃ (omega (arith, counted-rows tapRule 1000 (3 + m) s₂ taps s₃ w .few)) q
+
     second : (places : Lines) (s₁ : List ℕ) → length places ≤ 256 → (k : Section)
         → let n = length places in counted (clipRule n) n (2 + n) s₁ ≡ k
         → thenRead k (λ clips s₂. let m = n + length clips in thenRead (counted tapRule 1000 (3 + m) s₂) (λ taps s₃. atEnd (4 + m + length taps) (record { places = places; clips = clips; taps = taps }) s₃)) ≡ refused r at → Small r at 9999
@@ -185,12 +191,14 @@ refusal-small b r at e = short (ltb 65536 (length b)) e
     second places s₁ p (ended clips s₂) w q =
         let n = length places in
         third places clips s₂ p (omega (arith, counted-rows (clipRule n) n (2 + n) s₁ clips s₂ w .few)) (counted tapRule 1000 (3 + (n + length clips)) s₂) refl q
+
     first : (k : Section) → counted placeRule 256 1 b ≡ k
         → thenRead k (λ places s₁. let n = length places in thenRead (counted (clipRule n) n (2 + n) s₁) (λ clips s₂. let m = n + length clips in thenRead (counted tapRule 1000 (3 + m) s₂) (λ taps s₃. atEnd (4 + m + length taps) (record { places = places; clips = clips; taps = taps }) s₃))) ≡ refused r at → Small r at 9999
     first (stopped a d) w q = stop-small a d r at q (grow a d 257 9999 (omega arith) (counted-small placeRule 256 1 b a d w))
     first (ended places s₁) w q =
         let n = length places in
         second places s₁ (counted-rows placeRule 256 1 b places s₁ w .few) (counted (clipRule n) n (2 + n) s₁) refl q
+
     short : (k : Bool) → cond k (refused 20 0) (thenRead (counted placeRule 256 1 b) (λ places s₁. let n = length places in thenRead (counted (clipRule n) n (2 + n) s₁) (λ clips s₂. let m = n + length clips in thenRead (counted tapRule 1000 (3 + m) s₂) (λ taps s₃. atEnd (4 + m + length taps) (record { places = places; clips = clips; taps = taps }) s₃)))) ≡ refused r at → Small r at 9999
     short true q = stop-small 20 0 r at q (record { number = omega arith; line = omega arith })
     short false q = first (counted placeRule 256 1 b) refl q

@@ -119,7 +119,6 @@ tap-ranges t h =
       bits = not-negative 7 (t .flags) (and-right (a && b) c h);
     }
 
-
 -- ---- the orientations' coefficients are 0, 1 and −1
 
 pub abs-neg : (z : ℤ) → natAbs (negℤ z) ≡ natAbs z
@@ -187,9 +186,20 @@ unfolding localOf finiteLocal finiteRect finiteInsets finiteAffine
 local-finite p c r f =
     let m = orientation (natAbs (p .orientation)) in
     let s = orientation-small (natAbs (p .orientation)) in
-    rw (small-finite (p .x0) (r .x0), small-finite (p .y0) (r .y0), small-finite (p .x1) (r .x1), small-finite (p .y1) (r .y1),
-    small-finite (p .slop) (omega (arith, r .slop)), small-finite (m .a) (omega (arith, s .a)), small-finite (m .b) (omega (arith, s .b)),
-    small-finite (m .c) (omega (arith, s .c)), small-finite (m .d) (omega (arith, s .d)), small-finite (p .x) (r .x), small-finite (p .y) (r .y), f)
+    rw (
+      small-finite (p .x0) (r .x0),
+      small-finite (p .y0) (r .y0),
+      small-finite (p .x1) (r .x1),
+      small-finite (p .y1) (r .y1),
+      small-finite (p .slop) (omega (arith, r .slop)),
+      small-finite (m .a) (omega (arith, s .a)),
+      small-finite (m .b) (omega (arith, s .b)),
+      small-finite (m .c) (omega (arith, s .c)),
+      small-finite (m .d) (omega (arith, s .d)),
+      small-finite (p .x) (r .x),
+      small-finite (p .y) (r .y),
+      f,
+    )
 
 pub local-known : (p : PlaceLine) (c : Clip) → PlaceRanges p → known (localOf p c .flags) ≡ true
 unfolding localOf

@@ -59,7 +59,7 @@ thousands n h = go (leb 1000 n) refl
     go true e =
         let l : 1000 ≤ n = leb-true 1000 n e in
         let q : decimal (n / 10) ≡ (digitIf true (n / 1000) ++ digitIf true (n / 100)) ++ digitIf true (n / 10) =
-            hundreds (n / 10) (omega arith) ∙ rw (le-leb 10 (n / 10) (omega arith), le-leb 100 (n / 10) (omega arith), div-div-eq-div-mul n 10 10, div-div-eq-div-mul n 10 100) in
+        hundreds (n / 10) (omega arith) ∙ rw (le-leb 10 (n / 10) (omega arith), le-leb 100 (n / 10) (omega arith), div-div-eq-div-mul n 10 10, div-div-eq-div-mul n 10 100) in
         rw (le-leb 10 n (omega arith), le-leb 100 n (omega arith)) (decimal-more n (omega arith) ∙ ap (λ (k : List ℕ). k ++ digitIf true n) q)
     go false e = hundreds n (leb-false 1000 n e)
 

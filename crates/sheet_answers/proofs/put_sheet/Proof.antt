@@ -32,10 +32,11 @@ put-taps-requires c κs =
     let l = c .before .before .before .before in
     let s = l .before .before .before .before .before .before .before .before .before in
     let p = s .args .p in
-    let g = s .pre .0 in
-    (few-taps p g,
-    subst (λ (t : Tree). AllReady t (p .taps) (p .tapped)) (sym (tree (l .before .before))) (taps-ready (sheetOf p) g (p .taps) (p .tapped) refl),
-    omega (arith, l .put-line .ensures .behind, room-kept (l .put-line .ensures), short-count (p .tapped) (omega (arith, few-taps p g)), s .pre .1))
+    let g = s .pre .0 in (
+      few-taps p g,
+      subst (λ (t : Tree). AllReady t (p .taps) (p .tapped)) (sym (tree (l .before .before))) (taps-ready (sheetOf p) g (p .taps) (p .tapped) refl),
+      omega (arith, l .put-line .ensures .behind, room-kept (l .put-line .ensures), short-count (p .tapped) (omega (arith, few-taps p g)), s .pre .1),
+    )
 
 same-length : tie.Need-same-length
 same-length c = search needs

@@ -32,9 +32,11 @@ loop-holds c =
 put-tap-requires : tie.Need-put-tap-requires Inv-loop μ-loop
 put-tap-requires c κs =
     let l = c .before .before in
-    let s = c .before .before .before .before in
-    (omega (arith, s .pre .0), s .pre .1 (l .loop .i) (c .before .loop-test .taken),
-    omega (arith, s .pre .0, s .pre .2, l .loop .inv .1, l .loop .inv .2 .behind, room-kept (l .loop .inv .2)))
+    let s = c .before .before .before .before in (
+      omega (arith, s .pre .0),
+      s .pre .1 (l .loop .i) (c .before .loop-test .taken),
+      omega (arith, s .pre .0, s .pre .2, l .loop .inv .1, l .loop .inv .2 .behind, room-kept (l .loop .inv .2)),
+    )
 
 add-i : tie.Need-add-i Inv-loop μ-loop
 add-i c = search needs
@@ -56,10 +58,12 @@ loop-again c =
     let r = s .pre .1 i h in
     let f = found (A .t) (tapOf (rowAt 3 i (A .taps .now))) in
     let short = short-line (i + 1) (placeHit f) (depthHit f) (omega (arith, s .pre .0)) (omega (arith, r .place)) (omega (arith, r .depth)) in
-    let a : length (old ++ line) ≡ length old + length line = length-append old line in
-    (omega arith, omega (arith, ap length e, a, short, l .loop .inv .1),
-    subst (Stored (A .room .now) (q .put-tap .last .1 .1 .1 .1 .0) (A .at) (q .put-tap .result)) (sym e)
-    (then-stored (A .room .now) (l .loop .room) (q .put-tap .last .1 .1 .1 .1 .0) (A .at) (l .loop .next) (q .put-tap .result) old line (l .loop .inv .2) (q .put-tap .ensures)))
+    let a : length (old ++ line) ≡ length old + length line = length-append old line in (
+      omega arith,
+      omega (arith, ap length e, a, short, l .loop .inv .1),
+      subst (Stored (A .room .now) (q .put-tap .last .1 .1 .1 .1 .0) (A .at) (q .put-tap .result)) (sym e)
+          (then-stored (A .room .now) (l .loop .room) (q .put-tap .last .1 .1 .1 .1 .0) (A .at) (l .loop .next) (q .put-tap .result) old line (l .loop .inv .2) (q .put-tap .ensures)),
+    )
 
 same-length : tie.Need-same-length Inv-loop μ-loop
 same-length c = room-kept (c .before .loop .inv .2)

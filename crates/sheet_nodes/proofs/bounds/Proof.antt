@@ -19,8 +19,16 @@ real-requires-4 c κs = near (c .before .before .before .args .y1) 1000000 (c .b
 returns : tie.Need-returns
 returns c =
     let s = c .before .before .before .before in
-    rw (c .real4 .ensures, c .before .real3 .ensures, c .before .before .real2 .ensures, c .before .before .before .real .ensures,
-    back (s .args .x0) (omega (arith, s .pre .0)), back (s .args .y0) (omega (arith, s .pre .1)), back (s .args .x1) (omega (arith, s .pre .2)), back (s .args .y1) (omega (arith, s .pre .3)))
+    rw (
+      c .real4 .ensures,
+      c .before .real3 .ensures,
+      c .before .before .real2 .ensures,
+      c .before .before .before .real .ensures,
+      back (s .args .x0) (omega (arith, s .pre .0)),
+      back (s .args .y0) (omega (arith, s .pre .1)),
+      back (s .args .x1) (omega (arith, s .pre .2)),
+      back (s .args .y1) (omega (arith, s .pre .3)),
+    )
 
 pub bounds-spec : {M : Type 1} → statement M
 bounds-spec = tie.close (tie.spec real-requires real-requires-2 real-requires-3 real-requires-4 returns)

@@ -64,8 +64,20 @@ returns-2 c =
     let s = c .before .before .before .before .before .before .before .before .before .before .before .before .before .before .before .before .before in
     let l = s .args .c in
     let r = ranges s in
-    rw (sym (corners (c .before .before .before .before .before .before .before .before .before .before .before)), c .before .before .before .before .before .before .before .before .before .before .if1 .left, c .real5 .ensures, c .before .before .real4 .ensures, c .before .before .before .before .real3 .ensures, c .before .before .before .before .before .before .real2 .ensures, c .before .before .before .before .before .before .before .before .real .ensures,
-    back (l .x0) (omega (arith, r .x0)), back (l .x1) (omega (arith, r .x1)), back (l .y0) (omega (arith, r .y0)), back (l .y1) (omega (arith, r .y1)), back (l .radius) (omega (arith, r .radius)))
+    rw (
+      sym (corners (c .before .before .before .before .before .before .before .before .before .before .before)),
+      c .before .before .before .before .before .before .before .before .before .before .if1 .left,
+      c .real5 .ensures,
+      c .before .before .real4 .ensures,
+      c .before .before .before .before .real3 .ensures,
+      c .before .before .before .before .before .before .real2 .ensures,
+      c .before .before .before .before .before .before .before .before .real .ensures,
+      back (l .x0) (omega (arith, r .x0)),
+      back (l .x1) (omega (arith, r .x1)),
+      back (l .y0) (omega (arith, r .y0)),
+      back (l .y1) (omega (arith, r .y1)),
+      back (l .radius) (omega (arith, r .radius)),
+    )
 
 pub clip-on-spec : {M : Type 1} → statement M
 clip-on-spec =

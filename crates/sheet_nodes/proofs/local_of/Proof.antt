@@ -74,9 +74,21 @@ returns c =
     let s = c .before .before .before .before .before .before .before .before .before .before .before .before .before .before .before .before .before in
     let p = s .args .p in
     let r = ranges s in
-    rw (c .small2 .ensures, c .before .before .level .ensures, c .before .before .before .before .real .ensures, c .before .before .before .before .before .before .bounds .ensures, placed (c .before .before .before .before .before .before .before .before .before .before .before),
-    back (p .x0) (omega (arith, r .x0)), back (p .y0) (omega (arith, r .y0)), back (p .x1) (omega (arith, r .x1)), back (p .y1) (omega (arith, r .y1)),
-    back (p .slop) (omega (arith, r .slop)), level-same (p .level) (r .level), word-same (p .level) (r .level), back (p .flags) (omega (arith, r .flags)))
+    rw (
+      c .small2 .ensures,
+      c .before .before .level .ensures,
+      c .before .before .before .before .real .ensures,
+      c .before .before .before .before .before .before .bounds .ensures,
+      placed (c .before .before .before .before .before .before .before .before .before .before .before),
+      back (p .x0) (omega (arith, r .x0)),
+      back (p .y0) (omega (arith, r .y0)),
+      back (p .x1) (omega (arith, r .x1)),
+      back (p .y1) (omega (arith, r .y1)),
+      back (p .slop) (omega (arith, r .slop)),
+      level-same (p .level) (r .level),
+      word-same (p .level) (r .level),
+      back (p .flags) (omega (arith, r .flags)),
+    )
 
 pub local-of-spec : {M : Type 1} → statement M
 local-of-spec =

@@ -27,9 +27,20 @@ returns c =
     let s = c .before .before .before .before .before .before .before .before .before .before in
     let m = s .args .m in
     let p = s .pre in
-    rw (c .real6 .ensures, c .before .real5 .ensures, c .before .before .real4 .ensures, c .before .before .before .before .real3 .ensures, c .before .before .before .before .before .before .real2 .ensures, c .before .before .before .before .before .before .before .before .real .ensures,
-    back (m .a) (omega (arith, p .0 .a)), back (m .b) (omega (arith, p .0 .b)), back (m .c) (omega (arith, p .0 .c)), back (m .d) (omega (arith, p .0 .d)),
-    back (s .args .x) (omega (arith, p .1)), back (s .args .y) (omega (arith, p .2)))
+    rw (
+      c .real6 .ensures,
+      c .before .real5 .ensures,
+      c .before .before .real4 .ensures,
+      c .before .before .before .before .real3 .ensures,
+      c .before .before .before .before .before .before .real2 .ensures,
+      c .before .before .before .before .before .before .before .before .real .ensures,
+      back (m .a) (omega (arith, p .0 .a)),
+      back (m .b) (omega (arith, p .0 .b)),
+      back (m .c) (omega (arith, p .0 .c)),
+      back (m .d) (omega (arith, p .0 .d)),
+      back (s .args .x) (omega (arith, p .1)),
+      back (s .args .y) (omega (arith, p .2)),
+    )
 
 pub shifted-spec : {M : Type 1} → statement M
 shifted-spec = tie.close (tie.spec real-requires real-requires-2 real-requires-3 real-requires-4 real-requires-5 real-requires-6 returns)

@@ -17,9 +17,16 @@ returns : tie.Need-returns
 returns c =
     let s = c .before .before .before .before .before in
     let m = s .args .m in
-    rw (back (m .a) (omega (arith, s .pre .a)), back (m .c) (omega (arith, s .pre .c)), c .before .negated2 .ensures, c .before .before .before .negated .ensures,
-    back (m .b) (omega (arith, s .pre .b)), back (m .d) (omega (arith, s .pre .d)),
-    back (negℤ (m .b)) (omega (arith, abs-neg (m .b), s .pre .b)), back (negℤ (m .d)) (omega (arith, abs-neg (m .d), s .pre .d)))
+    rw (
+      back (m .a) (omega (arith, s .pre .a)),
+      back (m .c) (omega (arith, s .pre .c)),
+      c .before .negated2 .ensures,
+      c .before .before .before .negated .ensures,
+      back (m .b) (omega (arith, s .pre .b)),
+      back (m .d) (omega (arith, s .pre .d)),
+      back (negℤ (m .b)) (omega (arith, abs-neg (m .b), s .pre .b)),
+      back (negℤ (m .d)) (omega (arith, abs-neg (m .d), s .pre .d)),
+    )
 
 pub turned-spec : {M : Type 1} → statement M
 turned-spec = tie.close (tie.spec negated-requires negated-requires-2 returns)

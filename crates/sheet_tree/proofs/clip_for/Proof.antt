@@ -63,10 +63,11 @@ loop-again : tie.Need-loop-again Inv-loop μ-loop
 loop-again c =
     let p = c .before in
     let l = c .before .before .before .before .before in
-    let s = l .before in
-    (search needs,
-    not-this (s .args .m) (s .args .clips .now) (s .args .k) (l .loop .i) (c .before .before .before .before .loop-test .taken) (sym (told p) ∙ c .if1 .left)
-    ∙ l .loop .inv .1)
+    let s = l .before in (
+      search needs,
+      not-this (s .args .m) (s .args .clips .now) (s .args .k) (l .loop .i) (c .before .before .before .before .loop-test .taken) (sym (told p) ∙ c .if1 .left)
+          ∙ l .loop .inv .1,
+    )
 
 returns-2 : tie.Need-returns-2 Inv-loop μ-loop
 returns-2 c =

@@ -86,12 +86,13 @@ loop-again c =
     let s = l .before .before in
     let A = s .args in
     let i = l .loop .i in
-    let S = sheetOf (A .places .now) (A .n) (A .clips .now) (A .m) in
-    (omega arith,
-    next (l .loop .t) (treeUpTo S i) (c .insert-place .result) (k .before .place-at .result) (placeOf (rowAt 11 i (A .places .now))) (k .clip-for .result) (clipFor (rowsOf 6 (A .m) (A .clips .now)) (suc i))
-    (l .loop .inv .1) (line (k .before)) (clip k) (c .insert-place .ensures)
-    ∙ place-next (A .places .now) (A .n) (A .clips .now) (A .m) (s .pre) i (k .before .before .loop-test .taken)
-    ∙ ap (treeUpTo S) (sym (add-one i)))
+    let S = sheetOf (A .places .now) (A .n) (A .clips .now) (A .m) in (
+      omega arith,
+      next (l .loop .t) (treeUpTo S i) (c .insert-place .result) (k .before .place-at .result) (placeOf (rowAt 11 i (A .places .now))) (k .clip-for .result) (clipFor (rowsOf 6 (A .m) (A .clips .now)) (suc i))
+          (l .loop .inv .1) (line (k .before)) (clip k) (c .insert-place .ensures)
+          ∙ place-next (A .places .now) (A .n) (A .clips .now) (A .m) (s .pre) i (k .before .before .loop-test .taken)
+          ∙ ap (treeUpTo S) (sym (add-one i)),
+    )
 
 returns : tie.Need-returns Inv-loop μ-loop
 returns c =
