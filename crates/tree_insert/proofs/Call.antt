@@ -31,7 +31,7 @@ use Rattle.tree_changes.proofs.Handed.{whole}
 use Rattle.keep_calls.proofs.Links.{new-low}
 use Rattle.tree_insert.specs.declared.AfterInsert.{AfterInsert}
 use Rattle.tree_insert.specs.declared.Inserted.the-variants as inserts
-use Rattle.tree_insert.specs.Insert.{insertedNumber, inserted, insertCall, idOf, Placed}
+use Rattle.tree_insert.specs.Insert.{insertedNumber, inserted, insertCall, insertDone, idOf, Placed}
 
 -- ---- an accepted call
 
@@ -74,14 +74,18 @@ module _ (t : Tree) (parent : OptionNodeId) (v : LocalNode) (w : Verdict) (e : w
   unfolding insertCall
   refused r f = rw (← e, f)
 
-  pub done : w ≡ is.Accepted → (i : NodeId) (slots : Slots) (links : Links) (locals : Locals) (worlds : Worlds) (marks : Marks) (keys : Keys)
-      → i ≡ idOf (t .slots) → slots ≡ takeSlot (t .slots) → links ≡ linkNew t parent (i .0) → locals ≡ storeLocal (t .locals) (i .0) (stored v)
-      → worlds ≡ clearBoxes (t .worlds) (i .0) → marks ≡ markBoth (t .marks) (i .0) → keys ≡ withoutKey (t .keys) (i .0)
-      → let u : Tree = record { slots = slots; links = links; locals = locals; worlds = worlds; marks = marks; keys = keys; pending = t .pending; index = t .index } in
-      let a : AfterInsert = record { answer = inserts.Node i; tree = u } in
-      a ≡ insertCall t parent v
-  unfolding insertCall insertTree
-  done f i slots links locals worlds marks keys h e0 e1 e2 e3 e4 e5 = rw (← e, f, e0, e1, e2, e3, e4, e5, h)
+  pub accepted : w ≡ is.Accepted → insertDone t parent v ≡ insertCall t parent v
+  unfolding insertCall
+  accepted f = rw (← e, f)
+
+pub done : (t : Tree) (parent : OptionNodeId) (v : LocalNode) (i : NodeId) (slots : Slots) (links : Links) (locals : Locals) (worlds : Worlds) (marks : Marks) (keys : Keys)
+    → i ≡ idOf (t .slots) → slots ≡ takeSlot (t .slots) → links ≡ linkNew t parent (i .0) → locals ≡ storeLocal (t .locals) (i .0) (stored v)
+    → worlds ≡ clearBoxes (t .worlds) (i .0) → marks ≡ markBoth (t .marks) (i .0) → keys ≡ withoutKey (t .keys) (i .0)
+    → let u : Tree = record { slots = slots; links = links; locals = locals; worlds = worlds; marks = marks; keys = keys; pending = t .pending; index = t .index } in
+    let a : AfterInsert = record { answer = inserts.Node i; tree = u } in
+    a ≡ insertDone t parent v
+unfolding insertTree
+done t parent v i slots links locals worlds marks keys h e0 e1 e2 e3 e4 e5 = rw (e0, e1, e2, e3, e4, e5, h)
 
 -- the answer's number is the verdict's
 pub same-number : (t : Tree) (parent : OptionNodeId) (v : LocalNode) → insertedNumber (insertCall t parent v .answer) ≡ numberIn (insertVerdict t parent v)

@@ -34,6 +34,10 @@ insertCall t parent v =
       tree = treeIf (insertVerdict t parent v) (insertTree t parent v) t;
     }
 
+-- what a call that nothing refuses answers and leaves
+abbrev pub insertDone : Tree → OptionNodeId → LocalNode → AfterInsert
+insertDone t parent v = record { answer = inserts.Node (newId t); tree = insertTree t parent v }
+
 -- ---- what the code's steps speak of
 
 abbrev pub idOf : Slots → NodeId

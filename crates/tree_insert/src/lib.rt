@@ -6,6 +6,7 @@ ghost use Prim.Native.Nat.{_-_, _<_, _≤_};
 ghost use lib.ListN.{take};
 ghost use Rattle.box_types.specs.Local as local_spec;
 ghost use Rattle.forest.specs.Table.{depthsFrom};
+ghost use Rattle.tree_state.specs.declared.Verdict.the-variants as is;
 ghost use Rattle.tree_state.specs.Tree.{placeOf};
 ghost use Rattle.tree_steps.specs.Structure as step;
 ghost use Rattle.tree_insert.specs.Insert as spec;
@@ -174,16 +175,11 @@ fn without_key(mut k: Keys, x: usize) -> Keys
 
 // ---- the call
 
-pub fn insert(t: Tree, parent: OptionNodeId, local: LocalNode) -> AfterInsert
-    ensures { λ r. ⌜ r ≡ spec.insertCall t parent local ⌝ }
+// Inner: the stores of a call that nothing refuses.
+pub fn insert_accepted(t: Tree, parent: OptionNodeId, local: LocalNode) -> AfterInsert
+    requires { ⌜ step.insertVerdict t parent local ≡ is.Accepted ⌝ }
+    ensures { λ r. ⌜ r ≡ spec.insertDone t parent local ⌝ }
 {
-    let v = test(t, parent, local);
-    if let Verdict::Refused(r) = v {
-        return AfterInsert {
-            answer: Inserted::Refused(r),
-            tree: t,
-        };
-    }
     let slots = t.slots;
     let locals = t.locals;
     let worlds = t.worlds;
@@ -206,5 +202,18 @@ pub fn insert(t: Tree, parent: OptionNodeId, local: LocalNode) -> AfterInsert
     AfterInsert {
         answer: Inserted::Node(id),
         tree,
+    }
+}
+
+pub fn insert(t: Tree, parent: OptionNodeId, local: LocalNode) -> AfterInsert
+    ensures { λ r. ⌜ r ≡ spec.insertCall t parent local ⌝ }
+{
+    let v = test(t, parent, local);
+    match v {
+        Verdict::Accepted => insert_accepted(t, parent, local),
+        Verdict::Refused(r) => AfterInsert {
+            answer: Inserted::Refused(r),
+            tree: t,
+        },
     }
 }

@@ -1,101 +1,33 @@
 use mathlib.Core.Path.{_≡_, sym, _∙_}
-use Prim.Native.Nat.{_<_}
-use native.Mathlib.Omega.{arith}
 use borrow.Author.Needs.{needs}
-use Rattle.tree_insert.proofs.Steps.{id-low}
-use Rattle.tree_insert.proofs.Call.{Room, room-of, refused, done}
+use Rattle.tree_insert.proofs.Call.{refused, accepted}
 use Rattle.tree_insert.proofs.insert.Statement.{statement}
 use Rattle.tree_insert.proofs.insert.Tie as tie
 
 test-requires : tie.Need-test-requires
 test-requires c κs = search needs
 
+enum-told : tie.Need-enum-told
+enum-told c = search needs
+
+insert-accepted-requires : tie.Need-insert-accepted-requires
+insert-accepted-requires c κs = sym (c .before .before .test .ensures) ∙ c .enum-told .given .1
+
 enum-known-v : tie.Need-enum-known-v
 enum-known-v c = search needs
 
 returns : tie.Need-returns
 returns c =
+    let e = c .before in
+    let k = e .before .before in
+    let A = k .before .args in
+    c .insert-accepted .ensures ∙ accepted (A .t) (A .parent) (A .local) (k .test .result) (k .test .ensures) (e .enum-told .given .1)
+
+returns-2 : tie.Need-returns-2
+returns-2 c =
     let k = c .before .before .before in
     let A = k .before .args in
     refused (A .t) (A .parent) (A .local) (k .test .result) (k .test .ensures) (c .before .v .given .0 .0) (c .before .v .given .1)
 
-enum-told : tie.Need-enum-told
-enum-told c = search needs
-
--- what an accepted call has
-abbrev start : tie.After-enum-told → tie.Start
-start c = c .before .before .before
-
-room : (c : tie.After-enum-told) → Room (start c .args .t) (start c .args .parent)
-room c =
-    let A = start c .args in
-    room-of (A .t) (A .parent) (A .local) (start c .good .0) (sym (c .before .before .test .ensures) ∙ c .enum-told .given .1)
-
--- the way back to the test
-abbrev from-id : tie.After-next-id → tie.After-enum-told
-from-id c = c .before .before .before .before .before .before .before .before
-
-next-id-requires : tie.Need-next-id-requires
-next-id-requires c κs =
-    let R = room (c .before .before .before .before .before .before .before) in
-    (R .used-fits, R .free-fits, R .slot-low)
-
-cast-x : tie.Need-cast-x
-cast-x c = search needs
-
-low : (c : tie.After-next-id) → c .next-id .result .0 < 256
-low c = id-low (start (from-id c) .args .t .slots) (c .next-id .result) (c .next-id .ensures) (room (from-id c) .slot-low)
-
-take-slot-requires : tie.Need-take-slot-requires
-take-slot-requires c κs =
-    let n = c .before in
-    let R = room (from-id n) in
-    (R .used-fits, R .slot-low, n .next-id .ensures)
-
-link-parent-requires : tie.Need-link-parent-requires
-link-parent-requires c κs = let R = room (from-id (c .before .before)) in (R .count-low, R .depths, R .placed)
-
-store-local-requires : tie.Need-store-local-requires
-store-local-requires c κs = low (c .before .before .before)
-
-clear-boxes-requires : tie.Need-clear-boxes-requires
-clear-boxes-requires c κs = low (c .before .before .before .before)
-
-mark-both-requires : tie.Need-mark-both-requires
-mark-both-requires c κs = omega (arith, low (c .before .before .before .before .before))
-
-without-key-requires : tie.Need-without-key-requires
-without-key-requires c κs = low (c .before .before .before .before .before .before)
-
-returns-2 : tie.Need-returns-2
-returns-2 c =
-    let m = c .before in
-    let b = m .before in
-    let l = b .before in
-    let p = l .before in
-    let s = p .before in
-    let n = s .before .before in
-    let e = from-id n in
-    let k = e .before .before in
-    let A = start e .args in
-    done (A .t) (A .parent) (A .local) (k .test .result) (k .test .ensures) (e .enum-told .given .1)
-    (n .next-id .result) (s .take-slot .result) (p .link-parent .result) (l .store-local .result) (b .clear-boxes .result) (m .mark-both .result) (c .without-key .result)
-    (n .next-id .ensures) (s .take-slot .ensures) (p .link-parent .ensures) (l .store-local .ensures) (b .clear-boxes .ensures) (m .mark-both .ensures) (c .without-key .ensures)
-
 pub insert-spec : {M : Type 1} → statement M
-insert-spec =
-    tie.close
-    (tie.spec
-    test-requires
-    enum-known-v
-    returns
-    enum-told
-    next-id-requires
-    cast-x
-    take-slot-requires
-    link-parent-requires
-    store-local-requires
-    clear-boxes-requires
-    mark-both-requires
-    without-key-requires
-    returns-2)
+insert-spec = tie.close (tie.spec test-requires enum-told insert-accepted-requires enum-known-v returns returns-2)

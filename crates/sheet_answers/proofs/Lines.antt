@@ -1,0 +1,193 @@
+-- The lines of taps one behind another; by the tree as by the plan. Assumes nothing.
+use Prim.Native.Nat.{ℕ, zero, suc, _+_, _*_, _≤_, _<_}
+use mathlib.Core.Path.{_≡_, refl, sym, ap, _∙_, subst}
+use mathlib.Core.Bool.{true, false}
+use mathlib.Core.List.{List, [], _∷_, _++_, append-assoc, append-nil}
+use native.Mathlib.Omega.{arith}
+use native.Mathlib.Numerals.{add-one}
+use lib.Dec.{ltb}
+use borrow.Author.Tests.{ltb-false}
+use lib.IntN.{ℤ}
+use lib.ListN.{length, getD, take, drop, length-append}
+use lib.Seq.{take-suc, take-length, length-take-le, sets, sets-eq}
+use Rattle.tree_state.specs.declared.Tree.{Tree}
+use Rattle.plan.specs.Plan.{Plan}
+use Rattle.plan.specs.Afresh.{Tap}
+use Rattle.plan_sheet.specs.declared.TapLine.{TapLine}
+use Rattle.plan_sheet.specs.declared.Parsed.{Parsed}
+use Rattle.plan_sheet.specs.Sheet.{Sheet, Read, refused, sheet, readSheet, tapOf, tapInRange, tapRule}
+use Rattle.plan_sheet.specs.declared.Refusal.{Refusal}
+use Rattle.plan_sheet.specs.declared.Answer.the-variants as answer
+use Rattle.plan_sheet.specs.Told.{rowsOf, rowAt, told, numberOf}
+use Rattle.sheet_calls.specs.Answers.{planOf, tapOn, askedOf, pointOf, placeHit, depthHit, decimal, lineOf, tapLines, sheetText, readText, bytes, output}
+use Rattle.sheet_calls.specs.Good.{Good, Fair, Passes}
+use Rattle.sheet_calls.proofs.Finite.{tap-ranges, asked-known}
+use Rattle.sheet_calls.proofs.Inserts.{passes-at}
+use Rattle.sheet_calls.proofs.Accepted.{good-sheet}
+use Rattle.sheet_calls.proofs.Bounds.{tap-short, refusal-small}
+use Rattle.sheet_laws.specs.Built.{treeOf}
+use Rattle.sheet_laws.proofs.Tree.{tap-accepted, tap-found}
+use Rattle.sheet_laws.proofs.Tables.{rows-many, rows-at}
+use Rattle.sheet_text.specs.Text.{Stored}
+use Rattle.sheet_text.proofs.Digits.{short}
+use Rattle.sheet_answers.specs.Text.{found, tapLine, tapText, Ready, AllReady, sheetOf, FromBytes, writtenIf, roomIf, roomy}
+use Rattle.sheet_answers.specs.declared.Written.the-variants as written
+
+-- ---- lengths
+
+short-mark : (n b : ℕ) → n < 10000 → length (decimal n ++ b ∷ []) ≤ 5
+short-mark n b h = let e : length (decimal n ++ b ∷ []) ≡ length (decimal n) + 1 = length-append (decimal n) (b ∷ []) in omega (arith, e, short n h)
+
+pub short-line : (n m k : ℕ) → n < 10000 → m < 10000 → k < 10000 → length (lineOf (n ∷ m ∷ k ∷ [])) ≤ 15
+unfolding lineOf
+short-line n m k a b c =
+    let last = decimal k ++ 10 ∷ [] in
+    let two = decimal m ++ 32 ∷ last in
+    let e : length (decimal n ++ 32 ∷ two) ≡ length (decimal n) + suc (length two) = length-append (decimal n) (32 ∷ two) in
+    let f : length two ≡ length (decimal m) + suc (length last) = length-append (decimal m) (32 ∷ last) in
+    omega (arith, e, f, short n a, short m b, short-mark k 10 c)
+
+-- ---- one line more
+
+pub text-more : (t : Tree) (k : ℕ) (rows : List (List ℤ)) (zs : List ℤ) → tapText t k (rows ++ zs ∷ []) ≡ tapText t k rows ++ tapLine t (k + length rows) zs
+unfolding tapText
+text-more t k [] zs = append-nil (tapLine t k zs) ∙ ap (λ (n : ℕ). tapLine t n zs) (let e : k ≡ k + 0 = omega arith in e)
+text-more t k (row ∷ rows) zs =
+    let e : suc k + length rows ≡ k + suc (length rows) = omega arith in
+    ap (λ (l : List ℕ). tapLine t k row ++ l) (text-more t (suc k) rows zs ∙ ap (λ (n : ℕ). tapText t (suc k) rows ++ tapLine t n zs) e)
+    ∙ sym (append-assoc (tapLine t k row) (tapText t (suc k) rows) (tapLine t (k + suc (length rows)) zs))
+
+-- the first i rows of a table, and one more
+module _ (t : Tree) (taps : List ℤ) (n i : ℕ) (h : i < n) where
+  pub next-text : tapText t 1 (take (i + 1) (rowsOf 3 n taps)) ≡ tapText t 1 (take i (rowsOf 3 n taps)) ++ tapLine t (i + 1) (rowAt 3 i taps)
+  next-text =
+      let rows = rowsOf 3 n taps in
+      let l : i < length rows = omega (arith, rows-many 3 n taps) in
+      let e : 1 + length (take i rows) ≡ i + 1 = omega (arith, length-take-le i rows (omega arith)) in
+      ap (λ (k : ℕ). tapText t 1 (take k rows)) (add-one i)
+      ∙ ap (tapText t 1) (take-suc rows i [] l ∙ ap (λ (r : List ℤ). take i rows ++ r ∷ []) (rows-at 3 n taps i h))
+      ∙ text-more t 1 (take i rows) (rowAt 3 i taps)
+      ∙ ap (λ (k : ℕ). tapText t 1 (take i rows) ++ tapLine t k (rowAt 3 i taps)) e
+
+pub all-text : (t : Tree) (taps : List ℤ) (n : ℕ) → tapText t 1 (take n (rowsOf 3 n taps)) ≡ tapText t 1 (rowsOf 3 n taps)
+all-text t taps n = ap (λ (k : ℕ). tapText t 1 (take k (rowsOf 3 n taps))) (sym (rows-many 3 n taps)) ∙ ap (tapText t 1) (take-length (rowsOf 3 n taps))
+
+pub no-text : (t : Tree) (rows : List (List ℤ)) → tapText t 1 (take 0 rows) ≡ []
+unfolding tapText
+no-text t rows = refl
+
+-- ---- a good sheet's taps
+
+found-same : (s : Sheet) (zs : List ℤ) → tapInRange (tapOf zs) ≡ true → found (treeOf s) (tapOf zs) ≡ tapOn (planOf s) (tapOf zs)
+unfolding tapOn
+found-same s zs h = tap-found s (askedOf (tapOf zs)) (asked-known (tapOf zs) (tap-ranges (tapOf zs) h)) (pointOf (tapOf zs))
+
+pub text-same : (s : Sheet) (k : ℕ) (before rows : List (List ℤ)) → Passes tapRule before rows → tapText (treeOf s) k rows ≡ tapLines (planOf s) k rows
+unfolding tapText tapLines Passes
+text-same s k before [] P = refl
+text-same s k before (zs ∷ rows) P =
+    ap (λ (h : Tap). lineOf (k ∷ placeHit h ∷ depthHit h ∷ []) ++ tapText (treeOf s) (suc k) rows) (found-same s zs (P .0 .ranged))
+    ∙ ap (λ (l : List ℕ). lineOf (k ∷ placeHit (tapOn (planOf s) (tapOf zs)) ∷ depthHit (tapOn (planOf s) (tapOf zs)) ∷ []) ++ l) (text-same s (suc k) (before ++ zs ∷ []) rows (P .1))
+
+pub taps-ready : (s : Sheet) → Good s → (taps : List ℤ) (n : ℕ) → s .taps ≡ rowsOf 3 n taps → AllReady (treeOf s) taps n
+taps-ready s g taps n e i h =
+    let p = tapOf (rowAt 3 i taps) in
+    let f = passes-at tapRule [] (s .taps) (g .taps) i (omega (arith, ap length e, rows-many 3 n taps)) in
+    let row : getD (s .taps) i [] ≡ rowAt 3 i taps = ap (λ (l : List (List ℤ)). getD l i []) e ∙ rows-at 3 n taps i h in
+    let r : tapInRange p ≡ true = subst (λ (z : List ℤ). tapInRange (tapOf z) ≡ true) row (f .ranged) in
+    let b = tap-short s g p in
+    let q = found-same s (rowAt 3 i taps) r in
+    record {
+      ranged = r;
+      verdict = tap-accepted s (askedOf p) (asked-known p (tap-ranges p r));
+      place = subst (λ (a : Tap). placeHit a ≤ 256) (sym q) (b .0);
+      depth = subst (λ (a : Tap). depthHit a ≤ 256) (sym q) (b .1);
+    }
+
+-- the whole text of a good sheet
+pub sheet-text : (p : Parsed) → Good (sheetOf p) → lineOf (p .tapped ∷ []) ++ tapText (treeOf (sheetOf p)) 1 (rowsOf 3 (p .tapped) (p .taps)) ≡ sheetText (sheetOf p)
+unfolding sheetText
+sheet-text p g =
+    let rows = rowsOf 3 (p .tapped) (p .taps) in
+    ap (λ (n : ℕ). lineOf (n ∷ []) ++ tapText (treeOf (sheetOf p)) 1 rows) (sym (rows-many 3 (p .tapped) (p .taps)))
+    ∙ ap (λ (l : List ℕ). lineOf (length rows ∷ []) ++ l) (text-same (sheetOf p) 1 [] rows (g .taps))
+
+pub few-taps : (p : Parsed) → Good (sheetOf p) → p .tapped ≤ 1000
+few-taps p g = omega (arith, g .few-taps, rows-many 3 (p .tapped) (p .taps))
+
+pub short-count : (n : ℕ) → n < 10000 → length (lineOf (n ∷ [])) ≤ 5
+unfolding lineOf
+short-count n h = short-mark n 10 h
+
+-- ---- what was read
+
+pub told-refused : (p : Parsed) (w : Refusal) (l : ℕ) → p .answer ≡ answer.Refused w l → told p ≡ refused (numberOf w) l
+told-refused p w l e = rw e
+
+pub told-sheet : (p : Parsed) → p .answer ≡ answer.Sheet → told p ≡ sheet (sheetOf p)
+told-sheet p e = rw e
+
+pub line-low : (p : Parsed) → FromBytes p → (w : Refusal) (l : ℕ) → p .answer ≡ answer.Refused w l → l < 10000
+line-low p f w l e = omega (arith, refusal-small (f .0) (numberOf w) l (sym (f .1) ∙ told-refused p w l e) .line)
+
+pub good-read : (p : Parsed) → FromBytes p → p .answer ≡ answer.Sheet → Good (sheetOf p)
+good-read p f e = good-sheet (f .0) (sheetOf p) (sym (f .1) ∙ told-sheet p e)
+
+-- ---- the whole text stands in front of the room
+
+pub in-front : (old new : List ℕ) (r : ℕ) (text : List ℕ) → Stored old new 0 r text → length text ≤ length old → new ≡ text ++ drop (length text) old
+in-front old new r text S h = S .room ∙ sets-eq text old 0 (omega arith) ∙ ap (λ (n : ℕ). text ++ drop n old) (let e : 0 + length text ≡ length text = omega arith in e)
+
+-- ---- the text is at most 16,384 bytes long
+
+tap-lines-short : (s : Sheet) → Good s → (k : ℕ) (rows : List (List ℤ)) → k + length rows ≤ 9999 → length (tapLines (planOf s) k rows) ≤ 15 * length rows
+unfolding tapLines
+tap-lines-short s g k [] h = omega arith
+tap-lines-short s g k (zs ∷ rows) h =
+    let hit = tapOn (planOf s) (tapOf zs) in
+    let b = tap-short s g (tapOf zs) in
+    let line = lineOf (k ∷ placeHit hit ∷ depthHit hit ∷ []) in
+    let rest = tapLines (planOf s) (suc k) rows in
+    let e : length (line ++ rest) ≡ length line + length rest = length-append line rest in
+    omega (arith, e, short-line k (placeHit hit) (depthHit hit) (omega arith) (omega (arith, b .0)) (omega (arith, b .1)), tap-lines-short s g (suc k) rows (omega arith))
+
+sheet-short : (s : Sheet) → Good s → length (sheetText s) ≤ 16384
+unfolding sheetText
+sheet-short s g =
+    let first = lineOf (length (s .taps) ∷ []) in
+    let rest = tapLines (planOf s) 1 (s .taps) in
+    let e : length (first ++ rest) ≡ length first + length rest = length-append first rest in
+    omega (arith, e, g .few-taps, short-count (length (s .taps)) (omega (arith, g .few-taps)), tap-lines-short s g 1 (s .taps) (omega (arith, g .few-taps)))
+
+pair-short : (n m : ℕ) → n < 10000 → m < 10000 → length (lineOf (n ∷ m ∷ [])) ≤ 10
+unfolding lineOf
+pair-short n m a b =
+    let last = decimal m ++ 10 ∷ [] in
+    let e : length (decimal n ++ 32 ∷ last) ≡ length (decimal n) + suc (length last) = length-append (decimal n) (32 ∷ last) in
+    omega (arith, e, short n a, short-mark m 10 b)
+
+pub output-short : (b : List ℕ) → length (output b) ≤ 16384
+unfolding output
+output-short b = go (readSheet b) refl
+  where
+    go : (r : Read) → readSheet b ≡ r → length (readText r) ≤ 16384
+    go (sheet s) e = sheet-short s (good-sheet b s e)
+    go (refused n l) e =
+        let z = refusal-small b n l e in
+        let f : length (bytes "refused " ++ lineOf (n ∷ l ∷ [])) ≡ 8 + length (lineOf (n ∷ l ∷ [])) = length-append (bytes "refused ") (lineOf (n ∷ l ∷ [])) in
+        omega (arith, f, pair-short n l (omega (arith, z .number)) (omega (arith, z .line)))
+
+-- ---- the answer
+
+module _ (s room : List ℕ) where
+  pub short-answer : ltb (length room) 16384 ≡ true → (written.ShortRoom ≡ writtenIf (roomy room) (length (output s))) × (room ≡ roomIf (roomy room) (output s) room)
+  short-answer e = (rw e, rw e)
+
+  pub full-answer : ltb (length room) 16384 ≡ false → (p : Parsed) (new : List ℕ) (n : ℕ) → told p ≡ readSheet s → Stored room new 0 n (readText (told p))
+      → (written.Bytes n ≡ writtenIf (roomy room) (length (output s))) × (new ≡ roomIf (roomy room) (output s) room)
+  unfolding output
+  full-answer e p new n f S =
+      let T : Stored room new 0 n (output s) = subst (λ (r : Read). Stored room new 0 n (readText r)) f S in
+      let c : n ≡ length (output s) = omega (arith, T .behind) in
+      let long : length (output s) ≤ length room = omega (arith, ltb-false (length room) 16384 e, output-short s) in
+      (rw (e, c), rw e (in-front room new n (output s) T long))

@@ -1,0 +1,67 @@
+-- Rows in tables: how many, which one stands where, and the rows from one on. Assumes nothing.
+use Prim.Native.Nat.{ℕ, zero, suc, _+_, _*_, _-_, _≤_, _<_}
+use mathlib.Core.Path.{_≡_, refl, sym, ap, _∙_, subst}
+use mathlib.Core.Bool.{true, false}
+use mathlib.Core.List.{List, [], _∷_}
+use native.Mathlib.Nat.{suc-mul, zero-mul}
+use native.Mathlib.Omega.{arith}
+use native.Mathlib.Numerals.{add-one}
+use lib.IntN.{ℤ, pos}
+use lib.ListN.{length, getD, take, drop, drop-of-length-le}
+use lib.Seq.{drop-drop, drop-cons}
+use Rattle.clips.specs.declared.clip.Clip.{Clip}
+use Rattle.clips.specs.declared.clip.Clip.the-variants as clip
+use Rattle.plan_sheet.specs.Sheet.{Sheet, clipOf}
+use Rattle.plan_sheet.specs.Told.{rowsOf, rowAt}
+use Rattle.sheet_calls.specs.Calls.{equal, clipOn, clipFor, callsOf}
+use Rattle.sheet_calls.specs.Good.{Good, Passes}
+use Rattle.sheet_laws.specs.Built.{treeOf, untapped}
+
+pub rows-many : (w n : ℕ) (t : List ℤ) → length (rowsOf w n t) ≡ n
+unfolding rowsOf
+rows-many w zero t = refl
+rows-many w (suc n) t = ap suc (rows-many w n (drop w t))
+
+pub rows-at : (w n : ℕ) (t : List ℤ) (i : ℕ) → i < n → getD (rowsOf w n t) i [] ≡ rowAt w i t
+unfolding rowsOf
+rows-at w zero t i h = absurd (omega arith)
+rows-at w (suc n) t zero h = ap (λ (k : ℕ). take w (drop k t)) (sym (zero-mul w))
+rows-at w (suc n) t (suc i) h =
+    let m : suc i * w ≡ i * w + w = suc-mul i w in
+    let e : w + i * w ≡ suc i * w = omega arith in
+    rows-at w n (drop w t) i (omega arith) ∙ ap (take w) (drop-drop (i * w) w t ∙ ap (λ (k : ℕ). drop k t) e)
+
+-- ---- the clip of a place, row by row
+
+module _ (n : ℕ) (t : List ℤ) (k : ℕ) where
+  -- among the rows from i on
+  abbrev pub clipFrom : ℕ → Clip
+  clipFrom i = clipFor (drop i (rowsOf 6 n t)) k
+
+  pub none-left : (i : ℕ) → n ≤ i → clip.None ≡ clipFrom i
+  unfolding clipFor
+  none-left i h = let l : length (rowsOf 6 n t) ≤ i = omega (arith, rows-many 6 n t) in rw (drop-of-length-le (rowsOf 6 n t) l)
+
+  next-row : (i : ℕ) → i < n → drop i (rowsOf 6 n t) ≡ rowAt 6 i t ∷ drop (suc i) (rowsOf 6 n t)
+  next-row i h =
+      let l : i < length (rowsOf 6 n t) = omega (arith, rows-many 6 n t) in
+      drop-cons (rowsOf 6 n t) i [] l ∙ ap (λ (r : List ℤ). r ∷ drop (suc i) (rowsOf 6 n t)) (rows-at 6 n t i h)
+
+  pub this-one : (i : ℕ) → i < n → equal (clipOf (rowAt 6 i t) .place) (pos k) ≡ true → clipOn (clipOf (rowAt 6 i t)) ≡ clipFrom i
+  unfolding clipFor
+  this-one i h e = rw (next-row i h, e)
+
+  pub not-this : (i : ℕ) → i < n → equal (clipOf (rowAt 6 i t) .place) (pos k) ≡ false → clipFrom (i + 1) ≡ clipFrom i
+  unfolding clipFor
+  not-this i h e = rw (next-row i h, e, add-one)
+
+-- ---- a good sheet without its taps
+
+pub good-untapped : (s : Sheet) → Good s → Good (untapped (s .places) (s .clips))
+unfolding Passes
+good-untapped s g =
+    record { few-places = g .few-places; few-clips = g .few-clips; few-taps = omega arith; places = g .places; clips = g .clips; taps = tt }
+
+pub same-tree : (s : Sheet) → treeOf (untapped (s .places) (s .clips)) ≡ treeOf s
+unfolding treeOf callsOf
+same-tree s = refl

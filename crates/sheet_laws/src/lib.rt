@@ -1,0 +1,1 @@
+// What the box tree does on the calls of a sheet: definitions and laws.
