@@ -21,17 +21,7 @@ pub enum Written {
 
 // ---- taps
 
-// The line of tap i + 1.
-fn put_tap(t: Tree, taps: &[i64; 3000], i: usize, at: usize, room: &mut [u8]) -> usize
-    requires { ⌜ (i < 1000) × spec.Ready t (sheet.tapOf (rowAt 3 i (now taps))) × (at + 15 ≤ length (now room)) ⌝ }
-    ensures { λ r. ⌜ Stored (now (room .entry)) (now (room .exit)) at r (spec.tapLine t (i + 1) (rowAt 3 i (now (taps .entry)))) ⌝ }
-{
-    let p = plan_sheet::tap_at(taps, i);
-    let a = sheet_taps::tap_answer(t, p);
-    sheet_text::put_three(room, at, i + 1, a.place, a.depth)
-}
-
-// A line for each of the first n taps.
+// The taps' lines. The tree's tables are lent to each tap; none is tested again.
 fn put_taps(t: Tree, taps: &[i64; 3000], n: usize, at: usize, room: &mut [u8]) -> usize
     requires { ⌜ (n ≤ 1000) × spec.AllReady t (now taps) n × (at + 15000 ≤ length (now room)) ⌝ }
     ensures { λ r. ⌜ Stored (now (room .entry)) (now (room .exit)) at r (spec.tapText t 1 (rowsOf 3 n (now (taps .entry)))) ⌝ }
@@ -39,7 +29,31 @@ fn put_taps(t: Tree, taps: &[i64; 3000], n: usize, at: usize, room: &mut [u8]) -
     let mut next = at;
     let mut i = 0;
     while i < n {
-        next = put_tap(t, taps, i, next, room);
+        let p = plan_sheet::tap_at(taps, i);
+        let asked = sheet_nodes::asked_of(p);
+        let point = sheet_nodes::point_of(p);
+        let best = tree_taps::strongest(
+            &t.index.backend.present,
+            &t.index.backend.boxes,
+            &t.index.mark,
+            &t.index.payload,
+            &t.locals.flags,
+            &t.locals.level,
+            &t.locals.bounds,
+            &t.locals.slop,
+            &t.locals.kind,
+            &t.locals.clip,
+            &t.worlds.transform,
+            &t.links.order,
+            &t.links.depth,
+            &t.slots.generation,
+            t.links.count,
+            t.index.used,
+            asked,
+            point,
+        );
+        let a = sheet_taps::answer_at(&t.links.order, &t.links.depth, t.links.count, best);
+        next = sheet_text::put_three(room, next, i + 1, a.place, a.depth);
         i += 1;
     }
     next

@@ -1,30 +1,45 @@
--- A tap that nothing refuses answers the place and depth of the node hit.
-use Prim.Native.Nat.{ℕ, suc}
-use mathlib.Core.Path.{_≡_, refl, sym, ap, _∙_}
+-- The slot that a tap has found is the place and depth that the sheet prints: a path is as long as its node is deep.
+use Prim.Native.Nat.{ℕ, suc, _+_, _≤_, _<_}
+use mathlib.Core.Path.{_≡_, refl, sym, ap, ap₂, _∙_}
+use mathlib.Core.Bool.{Bool, true, false, cond}
+use native.Mathlib.Omega.{arith}
 use native.Mathlib.Numerals.{add-one}
-use Rattle.geometry.specs.declared.point.Point.{Point}
-use Rattle.box_types.specs.declared.NodeFlags.{NodeFlags}
+use native.Mathlib.Decide.{ℕ-discrete}
+use borrow.Author.Tests.{ne-eqb, eq-eqb}
+use lib.Dec.{eqb}
+use lib.ListN.{length, getD, take}
 use Rattle.tree_state.specs.declared.Tree.{Tree}
-use Rattle.tree_state.specs.declared.Verdict.{Verdict}
-use Rattle.tree_state.specs.declared.Verdict.the-variants as is
-use Rattle.tree_steps.specs.Requests as request
+use Rattle.tree_state.specs.Tree.{placeOf}
+use Rattle.tree_steps.specs.Requests.{Best, nobody, best, pathTo}
 use Rattle.tree_run.specs.Run as run
-use Rattle.tree_taps.specs.declared.Tapped.{Tapped}
-use Rattle.tree_taps.specs.Taps.{hitOf, tappedIf}
-use Rattle.plan_sheet.specs.declared.TapLine.{TapLine}
-use Rattle.sheet_calls.specs.Answers.{pointOf, askedOf}
+use Rattle.tree_sound.specs.Parts.{Sized}
+use Rattle.tree_nodes.proofs.Nodes.{Held}
+use Rattle.tree_taps.specs.Taps.{Shown, bestOf, pathAt, idIn}
+use Rattle.tree_taps.proofs.Tap.{path-at, best-none, best-some}
+use Rattle.tree_taps.proofs.Climb.{back, back-count, deep-one, path-length}
 use Rattle.sheet_taps.specs.declared.Answered.{Answered}
-use Rattle.sheet_taps.specs.Taps.{answered, toldOf}
+use Rattle.sheet_taps.specs.Taps.{answered, answerAt}
 
-hit-told : (t : Tree) (b : request.Best) → toldOf (hitOf t b) ≡ answered (run.tapOf t b)
-hit-told t request.nobody = refl
-hit-told t (request.best x) = rw add-one
+module _ (t : Tree) (S : Sized t) (H : Held t) where
+  abbrev n : ℕ
+  n = t .links .count
 
-pub answered-told : (t : Tree) (p : TapLine) (asked : NodeFlags) (pt : Point) (a : Tapped) (r : Answered) → asked ≡ askedOf p → pt ≡ pointOf p
-    → request.requestVerdict t (askedOf p) 512 ≡ is.Accepted → a ≡ tappedIf (request.requestVerdict t asked 512) t (request.hitNode t asked pt) → r ≡ toldOf a
-    → r ≡ answered (run.tapOf t (request.hitNode t (askedOf p) (pointOf p)))
-unfolding tappedIf
-answered-told t p asked pt a r e f v g h =
-    let c : request.requestVerdict t asked 512 ≡ is.Accepted = ap (λ (k : NodeFlags). request.requestVerdict t k 512) e ∙ v in
-    h ∙ ap toldOf (g ∙ ap (λ (w : Verdict). tappedIf w t (request.hitNode t asked pt)) c) ∙ hit-told t (request.hitNode t asked pt)
-    ∙ rw (e, f)
+  -- the depth at a node's place is its path's length
+  path-deep : (x : ℕ) → placeOf t x < n → length (pathTo t x) ≡ getD (t .links .depth) (placeOf t x) 0
+  unfolding pathAt
+  path-deep x h =
+      let ds = t .links .depth in
+      let xs = t .links .order in
+      let lx : n ≤ length xs = omega (arith, S .order, H .count-fits) in
+      let ld : n ≤ length ds = omega (arith, S .depth, H .count-fits) in
+      let at = placeOf t x in
+      ap length (path-at t x)
+      ∙ path-length (idIn (t .slots .generation)) x (back (getD ds at 0) xs ds at)
+      ∙ back-count n ds ld (H .depths) xs lx at (getD ds at 0) h (deep-one n ds ld (H .depths) at h) (omega arith)
+
+  pub answer-is : (b : ℕ) (r : Best) → bestOf b ≡ r → ((b ≡ 256 → ⊥) → Shown (t .links .order) n b) → answerAt (t .links .order) (t .links .depth) n b ≡ answered (run.tapOf t r)
+  answer-is b r e sh =
+      elim (ℕ-discrete b 256) [
+        | yes q ↦ rw (← e, q, best-none t)
+        | no m ↦ rw (← e, best-some t b m, ne-eqb b 256 m, path-deep b (sh m .1), add-one)
+      ]

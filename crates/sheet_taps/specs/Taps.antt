@@ -1,16 +1,18 @@
 -- What a sheet prints of a tap: the place hit and its depth, or 0 and 0.
 use Prim.Native.Nat.{ℕ, _+_}
+use mathlib.Core.Bool.{cond}
+use mathlib.Core.List.{List}
+use lib.Dec.{eqb}
+use lib.ListN.{getD, take}
+use Rattle.forest.specs.Table.{indexOf}
 use Rattle.plan.specs.Afresh.{Tap}
 use Rattle.sheet_calls.specs.Answers.{placeHit, depthHit}
-use Rattle.tree_taps.specs.declared.Tapped.{Tapped}
-use Rattle.tree_taps.specs.declared.Tapped.the-variants as tapped
 use Rattle.sheet_taps.specs.declared.Answered.{Answered}
 
 abbrev pub answered : Tap → Answered
 answered t = record { place = placeHit t; depth = depthHit t }
 
--- of the answer that a tap gives
-abbrev pub toldOf : Tapped → Answered
-toldOf tapped.Nothing = record { place = 0; depth = 0 }
-toldOf (tapped.Hit i n) = record { place = i .0 + 1; depth = n }
-toldOf (tapped.Refused r) = record { place = 0; depth = 0 }
+-- of a slot, 256 for none, over the tables of links: the depth that stands at the slot's place
+abbrev pub answerAt : List ℕ → List ℕ → ℕ → ℕ → Answered
+answerAt order depth n b =
+    record { place = cond (eqb b 256) 0 (b + 1); depth = cond (eqb b 256) 0 (getD depth (indexOf b (take n order)) 0) }

@@ -1,16 +1,9 @@
 // A tap of a sheet on the sheet's tree: the place hit and its depth.
 ghost use mathlib.Core.Path.{_≡_};
-ghost use mathlib.Core.Bool.{true};
-ghost use Rattle.plan_sheet.specs.Sheet as sheet;
-ghost use Rattle.sheet_calls.specs.Answers.{pointOf, askedOf};
-ghost use Rattle.tree_run.specs.Run as run;
-ghost use Rattle.tree_state.specs.declared.Verdict.the-variants as is;
-ghost use Rattle.tree_steps.specs.Requests as request;
+ghost use Prim.Native.Nat.{_≤_};
+ghost use lib.ListN.{length};
+ghost use Rattle.tree_taps.specs.Taps.{Shown};
 ghost use Rattle.sheet_taps.specs.Taps as spec;
-use box_types::QueryFilter;
-use plan_sheet::TapLine;
-use tree_state::Tree;
-use tree_taps::Tapped;
 
 // The place hit, or 0, and its depth, or 0.
 pub struct Answered {
@@ -18,31 +11,29 @@ pub struct Answered {
     pub depth: usize,
 }
 
-// Place k is the node (k − 1, 1).
-fn told(a: Tapped) -> Answered
-    ensures { λ r. ⌜ r ≡ spec.toldOf a ⌝ }
+fn wide(d: u32) -> usize
+    ensures { λ r. ⌜ r ≡ d ⌝ }
 {
-    match a {
-        Tapped::Nothing => Answered { place: 0, depth: 0 },
-        Tapped::Hit(id, deep) => Answered {
-            place: id.0 as usize + 1,
-            depth: deep,
-        },
-        Tapped::Refused(_) => Answered { place: 0, depth: 0 },
-    }
+    d as usize
 }
 
-// Inner: a tap that nothing refuses.
-pub fn tap_answer(t: Tree, p: TapLine) -> Answered
-    requires { ⌜ (sheet.tapInRange p ≡ true) × (request.requestVerdict t (askedOf p) 512 ≡ is.Accepted) ⌝ }
-    ensures { λ r. ⌜ r ≡ spec.answered (run.tapOf t (request.hitNode t (askedOf p) (pointOf p))) ⌝ }
+// Inner: of the slot that a tap has found, 256 for none. Place k is the node (k − 1, 1).
+pub fn answer_at<'a>(
+    order: &'a [u32; 256],
+    depth: &'a [u32; 256],
+    n: usize,
+    best: usize,
+) -> Answered
+    requires { ⌜ (n ≤ 256) × (length (now order) ≡ 256) × (length (now depth) ≡ 256) × ((best ≡ 256 → ⊥) → Shown (now order) n best) ⌝ }
+    ensures { λ r. ⌜ r ≡ spec.answerAt (now (order .entry)) (now (depth .entry)) n best ⌝ }
 {
-    let point = sheet_nodes::point_of(p);
-    let asked = sheet_nodes::asked_of(p);
-    let mut room = [0u32; 512];
-    let filter = QueryFilter {
-        required_flags: asked,
-    };
-    let a = tree_taps::hit_test_point(t, point, filter, &mut room);
-    told(a)
+    if best == 256 { // nobody
+        return Answered { place: 0, depth: 0 };
+    }
+    let at = links::position(order, n, best as u32);
+    let deep = wide(depth[at]);
+    Answered {
+        place: best + 1,
+        depth: deep,
+    }
 }
