@@ -2,7 +2,8 @@ use Prim.Native.Nat.{ℕ, _+_, _-_, _≤_, _<_}
 use native.Mathlib.Omega.{arith}
 use borrow.Author.Needs.{needs}
 use mathlib.Core.Path.{_≡_}
-use lib.ListN.{length}
+use mathlib.Core.Bool.{true}
+use lib.ListN.{length, take}
 use Rattle.sheet_answers.proofs.Lines.{count-low}
 use Rattle.plan_taps.proofs.main.Statement.{statement}
 use Rattle.plan_taps.proofs.main.Tie as tie
@@ -46,7 +47,9 @@ write-front-requires : tie.Need-write-front-requires
 write-front-requires c κs =
     let a = c .before .before .before .before .before .answer-into in
     let long : length (a .last .1 .0) ≡ 16384 = a .kept .1 .0 in
-    omega (arith, count-low _ _ _ _ (a .ensures .0) (c .before .before .answer .given .1), long)
+    let r = c .before .before .before .before .before .before .before .before .before .read-full in
+    let k = c .before .before .answer .given in
+    omega (arith, count-low (take (r .result) (r .last .1 .0)) true (a .result) (k .0 .0) (a .ensures .0) (k .1), long)
 
 returns-2 : tie.Need-returns-2
 returns-2 c = search needs
