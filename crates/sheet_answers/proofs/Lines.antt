@@ -1,7 +1,7 @@
 -- The lines of taps one behind another; by the tree as by the plan. Assumes nothing.
 use Prim.Native.Nat.{ℕ, zero, suc, _+_, _*_, _≤_, _<_}
 use mathlib.Core.Path.{_≡_, refl, sym, ap, _∙_, subst}
-use mathlib.Core.Bool.{true, false}
+use mathlib.Core.Bool.{Bool, true, false}
 use mathlib.Core.List.{List, [], _∷_, _++_, append-assoc, append-nil}
 use native.Mathlib.Omega.{arith}
 use native.Mathlib.Numerals.{add-one}
@@ -31,6 +31,7 @@ use Rattle.sheet_laws.proofs.Tables.{rows-many, rows-at}
 use Rattle.sheet_text.specs.Text.{Stored}
 use Rattle.sheet_text.proofs.Digits.{short}
 use Rattle.sheet_answers.specs.Text.{found, tapLine, tapText, Ready, AllReady, sheetOf, FromBytes, writtenIf, roomIf, roomy}
+use Rattle.sheet_answers.specs.declared.Written.{Written}
 use Rattle.sheet_answers.specs.declared.Written.the-variants as written
 
 -- ---- lengths
@@ -191,3 +192,8 @@ module _ (s room : List ℕ) where
       let c : n ≡ length (output s) = omega (arith, T .behind) in
       let long : length (output s) ≤ length room = omega (arith, ltb-false (length room) 16384 e, output-short s) in
       (rw (e, c), rw e (in-front room new n (output s) T long))
+
+-- bytes that are told of are few
+pub count-low : (s : List ℕ) (b : Bool) (w : Written) (k : ℕ) → w ≡ writtenIf b (length (output s)) → w ≡ written.Bytes k → k ≤ 16384
+count-low s true w k e f = let g : k ≡ length (output s) = cc in omega (arith, output-short s)
+count-low s false w k e f = let z : _≡_ {A = ℕ} 0 1 = cc in absurd (omega arith)

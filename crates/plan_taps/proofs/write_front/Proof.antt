@@ -1,0 +1,22 @@
+use Prim.Native.Nat.{ℕ, _+_, _-_, _≤_, _<_}
+use native.Mathlib.Omega.{arith}
+use mathlib.Core.Path.{sym}
+use lib.Seq.{length-take-le}
+use borrow.Author.Needs.{needs}
+use Rattle.plan_taps.proofs.write_front.Statement.{statement}
+use Rattle.plan_taps.proofs.write_front.Tie as tie
+use Rattle.plan_taps.proofs.write_front.Reads as reads
+use Rattle.plan_taps.proofs.write_front.Lts as lts
+use Rattle.io.proofs.write_all.Reads as write-all-reads
+
+slice-aggregate-write-all : tie.Need-slice-aggregate-write-all
+slice-aggregate-write-all c = let s = c .before .before in sym (length-take-le (s .args .n) (s .args .room .now) (s .pre))
+
+write-all-requires : tie.Need-write-all-requires
+write-all-requires c κs = search needs
+
+returns : tie.Need-returns
+returns c = search needs
+
+pub write-front-spec : {M : Type 1} → statement M
+write-front-spec = tie.close (tie.spec slice-aggregate-write-all write-all-requires returns)
