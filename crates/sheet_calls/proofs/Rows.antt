@@ -1,5 +1,8 @@
 -- Document 01's example, worked out on the definitions from its bytes to the bytes of its answer; and every sheet beside it in few lines.
+use Prim.Native.Nat.{ℕ}
 use mathlib.Core.Path.{_≡_, refl}
+use mathlib.Core.List.{[]}
+use lib.IntN.{ℤ, pos, negℤ}
 use lib.Ieee.{ofInt, round, units, odd, size, span, climb, neg, add, sub, mul, div, eq, le, lt, isNan}
 use Rattle.numbers.specs.Number.{minimum, maximum, magnitude}
 use Rattle.geometry.specs.Rectangle.{ordered, intersection, contains, plusInsets, noInsets, finiteRect, finiteInsets}
@@ -15,7 +18,9 @@ use Rattle.plan.specs.Visits.{starts, visits, enter, committed}
 use Rattle.plan.specs.Afresh.{placedOn, worldBounds, worldHitBounds, inClips, candidate, larger, largest, tap, redactLocal, redact}
 use Rattle.plan.specs.Calls.{lowest, refusal, accepted, step}
 use Rattle.plan.specs.Demand.{run}
+use Rattle.clips.specs.declared.clip.Clip.the-variants as clip
 use Rattle.sheet_lines.specs.Lines as lines
+use Rattle.plan_sheet.specs.declared.ClipLine.{ClipLine}
 use Rattle.plan_sheet.specs.Sheet as sheet
 use Rattle.sheet_calls.specs.Calls as calls
 use Rattle.sheet_calls.specs.Answers.{bytes, output, planOf, tapOn, digitsUpTo, decimal, lineOf, tapLines, sheetText}
@@ -23,3 +28,47 @@ use Rattle.sheet_calls.specs.Answers.{bytes, output, planOf, tapOn, digi
 example : output (bytes "2\n0 0 0 0 0 0 100 100 0 0 3\n1 1 100 0 0 0 40 20 0 0 3\n0\n4\n90 10 3\n100 10 3\n80 10 3\n200 200 3\n") ≡ bytes "4\n1 2 2\n2 2 2\n3 1 1\n4 0 0\n"
 unfolding output planOf tapOn digitsUpTo decimal lineOf tapLines sheetText sheet.readSheet sheet.counted sheet.section sheet.judge sheet.placeOf sheet.clipOf sheet.tapOf sheet.placeInRange sheet.clipInRange sheet.tapInRange sheet.parentEarlier sheet.clippedBefore sheet.clipPlaceOpen lines.cut lines.fields lines.numbersOf lines.wordsOf lines.decimal lines.positive lines.digitsAfter calls.turns calls.orientation calls.clipOn calls.clipFor calls.localOf calls.insertOf calls.insertsFrom calls.callsOf run step refusal lowest accepted inserted committed needsCommit starts visits enter keep any joined insertSorted sorted pre post has cat under remove roots spot hasAll finiteLocal stored finiteRect finiteInsets finiteAffine finiteClip finiteClipRect constructed clipRect clipRadii fitted shaped quadrant excess insideRounded inside ordered intersection contains plusInsets noInsets mapped product inverse transformRectBbox containsPoint image meetOwn meet clipped placed worldBox hitBox reached placedOn worldBounds worldHitBounds inClips candidate larger largest tap redactLocal redact minimum maximum magnitude ofInt round units odd size span climb neg add sub mul div eq le lt isNan
 example = refl
+
+-- ---- orientations 0 to 7: (a, b, c, d)
+
+one : ℤ
+one = pos 1
+
+minus : ℤ
+minus = negℤ (pos 1)
+
+none : ℤ
+none = pos 0
+
+linear : ℤ → ℤ → ℤ → ℤ → calls.Linear
+linear a b c d = record { a = a; b = b; c = c; d = d }
+
+orientations : (calls.orientation 0 ≡ linear one none none one)
+    × (calls.orientation 1 ≡ linear none one minus none)
+    × (calls.orientation 2 ≡ linear minus none none minus)
+    × (calls.orientation 3 ≡ linear none minus one none)
+    × (calls.orientation 4 ≡ linear minus none none one)
+    × (calls.orientation 5 ≡ linear none minus minus none)
+    × (calls.orientation 6 ≡ linear one none none minus)
+    × (calls.orientation 7 ≡ linear none one one none)
+unfolding linear one minus none calls.orientation calls.turns
+orientations = (refl, refl, refl, refl, refl, refl, refl, refl)
+
+-- ---- "A clip line whose two corners are equal stands for no clip"; equal x alone is a clip
+
+cornered : ℕ → ℕ → ℕ → ℕ → ClipLine
+cornered x0 y0 x1 y1 = record { place = pos 1; x0 = pos x0; y0 = pos y0; x1 = pos x1; y1 = pos y1; radius = pos 7 }
+
+corners : (calls.clipOn (cornered 3 3 3 3) ≡ clip.None)
+    × (calls.clipOn (cornered 3 0 3 9) ≡ clip.Rounded (calls.real (pos 3)) (calls.real (pos 0)) (calls.real (pos 3)) (calls.real (pos 9)) (calls.real (pos 7)) (calls.real (pos 7)) (calls.real (pos 7)) (calls.real (pos 7)))
+unfolding cornered calls.clipOn
+corners = (refl, refl)
+
+-- ---- refused sheets: one line only
+
+refusals : (output [] ≡ bytes "refused 21 1\n")
+    × (output (bytes "0\n0\n0\nx") ≡ bytes "refused 24 4\n")
+    × (output (bytes "257\n0\n0\n") ≡ bytes "refused 22 1\n")
+    × (output (bytes "0\n0\n0\n") ≡ bytes "0\n")
+unfolding output planOf digitsUpTo decimal lineOf tapLines sheetText sheet.readSheet sheet.counted sheet.section sheet.judge lines.cut lines.fields lines.numbersOf lines.wordsOf lines.decimal lines.positive lines.digitsAfter
+refusals = (refl, refl, refl, refl)
