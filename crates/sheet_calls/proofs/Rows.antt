@@ -1,4 +1,4 @@
--- Document 01's example, worked out on the definitions from its bytes to the bytes of its answer; and every sheet beside it in few lines.
+-- Worked rows: document 01's example from its bytes to the bytes of its answer; orientations, corners and refusals.
 use Prim.Native.Nat.{ℕ}
 use mathlib.Core.Path.{_≡_, refl}
 use mathlib.Core.List.{[]}
