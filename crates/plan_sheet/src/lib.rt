@@ -8,7 +8,7 @@ ghost use lib.Signed.{leZ};
 ghost use lib.ListN.{length, drop};
 ghost use lib.Seq.{paste};
 ghost use Rattle.plan_sheet.specs.Sheet as spec;
-ghost use Rattle.plan_sheet.specs.Told.{ruleOf, boundOf, numberOf, rowsOf, rowAt, toldLines, toldCount, countOf, told, fromClips, fromTaps};
+ghost use Rattle.plan_sheet.specs.Told.{ruleOf, boundOf, numberOf, rowsOf, toldLines, toldCount, countOf, told, fromClips, fromTaps};
 
 // A place: its parent (0 none), orientation, shift, bounds, slop, level and flags.
 pub struct PlaceLine {
@@ -368,57 +368,5 @@ pub fn sheet_at(s: &[u8], at: usize) -> Parsed
     match counted(s, at, Kind::Place, 256, 1, &mut places) {
         Lines::Stopped(why, l) => refused(why, l),
         Lines::Ended(n, next) => from_clips(s, next, places, n),
-    }
-}
-
-// ---- rows
-
-// Inner: a row of the places.
-pub fn place_at(places: &[i64; 2816], i: usize) -> PlaceLine
-    requires { ⌜ i < 256 ⌝ }
-    ensures { λ r. ⌜ r ≡ spec.placeOf (rowAt 11 i (now (places .entry))) ⌝ }
-{
-    let p = i * 11;
-    PlaceLine {
-        parent: places[p],
-        orientation: places[p + 1],
-        x: places[p + 2],
-        y: places[p + 3],
-        x0: places[p + 4],
-        y0: places[p + 5],
-        x1: places[p + 6],
-        y1: places[p + 7],
-        slop: places[p + 8],
-        level: places[p + 9],
-        flags: places[p + 10],
-    }
-}
-
-// Inner: a row of the clips.
-pub fn clip_at(clips: &[i64; 1536], i: usize) -> ClipLine
-    requires { ⌜ i < 256 ⌝ }
-    ensures { λ r. ⌜ r ≡ spec.clipOf (rowAt 6 i (now (clips .entry))) ⌝ }
-{
-    let p = i * 6;
-    ClipLine {
-        place: clips[p],
-        x0: clips[p + 1],
-        y0: clips[p + 2],
-        x1: clips[p + 3],
-        y1: clips[p + 4],
-        radius: clips[p + 5],
-    }
-}
-
-// Inner: a row of the taps.
-pub fn tap_at(taps: &[i64; 3000], i: usize) -> TapLine
-    requires { ⌜ i < 1000 ⌝ }
-    ensures { λ r. ⌜ r ≡ spec.tapOf (rowAt 3 i (now (taps .entry))) ⌝ }
-{
-    let p = i * 3;
-    TapLine {
-        x: taps[p],
-        y: taps[p + 1],
-        flags: taps[p + 2],
     }
 }

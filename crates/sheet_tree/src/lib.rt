@@ -32,7 +32,7 @@ fn clip_for(clips: &[i64; 1536], m: usize, k: usize) -> Clip
 {
     let mut i = 0;
     while i < m {
-        let c = plan_sheet::clip_at(clips, i);
+        let c = sheet_rows::clip_at(clips, i);
         if is_place(c.place, k) {
             return sheet_nodes::clip_on(c);
         }
@@ -81,7 +81,7 @@ fn insert_all(places: &[i64; 2816], n: usize, clips: &[i64; 1536], m: usize) -> 
     let mut t = tree_state::fresh();
     let mut i = 0;
     while i < n {
-        let p = plan_sheet::place_at(places, i);
+        let p = sheet_rows::place_at(places, i);
         let clip = clip_for(clips, m, i + 1);
         t = insert_place(t, p, clip);
         i += 1;

@@ -1,114 +1,115 @@
--- `plan_sheet::place_at` meets its contract: number by number.
+-- `sheet_rows::place_at` meets its contract: number by number.
 -- Assumes nothing.
-use Rattle.plan_sheet.proofs.Whole.{place-made}
+use Rattle.sheet_rows.proofs.Rows.{place-made}
 use Prim.Native.Nat.{_*_, _+_, _-_}
 use lib.ListN.{getD}
 use lib.IntN.{pos}
 use mir.Val.{SFits}
 use mir.Syntax.{w64}
 use mir.ValLaws.{toZ-ofZ}
+use native.Mathlib.Omega.{arith}
 use borrow.Author.Needs.{needs}
-use Rattle.plan_sheet.proofs.place_at.Statement.{statement}
-use Rattle.plan_sheet.proofs.place_at.Tie as tie
+use Rattle.sheet_rows.proofs.place_at.Statement.{statement}
+use Rattle.sheet_rows.proofs.place_at.Tie as tie
 
 mul-p : tie.Need-mul-p
-mul-p c = search needs
+mul-p c = omega (arith, c .pre)
 
 mul-t4 : tie.Need-mul-t4
-mul-t4 c = search needs
+mul-t4 c = omega (arith, c .pre)
 
 element-copy-out-t7 : tie.Need-element-copy-out-t7
-element-copy-out-t7 c = search needs
+element-copy-out-t7 c = omega (arith, c .pre)
 
 add-t8 : tie.Need-add-t8
-add-t8 c = search needs
+add-t8 c = omega (arith, c .before .pre)
 
 mul-t9 : tie.Need-mul-t9
-mul-t9 c = search needs
+mul-t9 c = omega (arith, c .before .pre)
 
 element-copy-out-t12 : tie.Need-element-copy-out-t12
-element-copy-out-t12 c = search needs
+element-copy-out-t12 c = omega (arith, c .before .pre)
 
 add-t13 : tie.Need-add-t13
-add-t13 c = search needs
+add-t13 c = omega (arith, c .before .before .pre)
 
 mul-t14 : tie.Need-mul-t14
-mul-t14 c = search needs
+mul-t14 c = omega (arith, c .before .before .pre)
 
 element-copy-out-t17 : tie.Need-element-copy-out-t17
-element-copy-out-t17 c = search needs
+element-copy-out-t17 c = omega (arith, c .before .before .pre)
 
 add-t18 : tie.Need-add-t18
-add-t18 c = search needs
+add-t18 c = omega (arith, c .before .before .before .pre)
 
 mul-t19 : tie.Need-mul-t19
-mul-t19 c = search needs
+mul-t19 c = omega (arith, c .before .before .before .pre)
 
 element-copy-out-t22 : tie.Need-element-copy-out-t22
-element-copy-out-t22 c = search needs
+element-copy-out-t22 c = omega (arith, c .before .before .before .pre)
 
 add-t23 : tie.Need-add-t23
-add-t23 c = search needs
+add-t23 c = omega (arith, c .before .before .before .before .pre)
 
 mul-t24 : tie.Need-mul-t24
-mul-t24 c = search needs
+mul-t24 c = omega (arith, c .before .before .before .before .pre)
 
 element-copy-out-t27 : tie.Need-element-copy-out-t27
-element-copy-out-t27 c = search needs
+element-copy-out-t27 c = omega (arith, c .before .before .before .before .pre)
 
 add-t28 : tie.Need-add-t28
-add-t28 c = search needs
+add-t28 c = omega (arith, c .before .before .before .before .before .pre)
 
 mul-t29 : tie.Need-mul-t29
-mul-t29 c = search needs
+mul-t29 c = omega (arith, c .before .before .before .before .before .pre)
 
 element-copy-out-t32 : tie.Need-element-copy-out-t32
-element-copy-out-t32 c = search needs
+element-copy-out-t32 c = omega (arith, c .before .before .before .before .before .pre)
 
 add-t33 : tie.Need-add-t33
-add-t33 c = search needs
+add-t33 c = omega (arith, c .before .before .before .before .before .before .pre)
 
 mul-t34 : tie.Need-mul-t34
-mul-t34 c = search needs
+mul-t34 c = omega (arith, c .before .before .before .before .before .before .pre)
 
 element-copy-out-t37 : tie.Need-element-copy-out-t37
-element-copy-out-t37 c = search needs
+element-copy-out-t37 c = omega (arith, c .before .before .before .before .before .before .pre)
 
 add-t38 : tie.Need-add-t38
-add-t38 c = search needs
+add-t38 c = omega (arith, c .before .before .before .before .before .before .before .pre)
 
 mul-t39 : tie.Need-mul-t39
-mul-t39 c = search needs
+mul-t39 c = omega (arith, c .before .before .before .before .before .before .before .pre)
 
 element-copy-out-t42 : tie.Need-element-copy-out-t42
-element-copy-out-t42 c = search needs
+element-copy-out-t42 c = omega (arith, c .before .before .before .before .before .before .before .pre)
 
 add-t43 : tie.Need-add-t43
-add-t43 c = search needs
+add-t43 c = omega (arith, c .before .before .before .before .before .before .before .before .pre)
 
 mul-t44 : tie.Need-mul-t44
-mul-t44 c = search needs
+mul-t44 c = omega (arith, c .before .before .before .before .before .before .before .before .pre)
 
 element-copy-out-t47 : tie.Need-element-copy-out-t47
-element-copy-out-t47 c = search needs
+element-copy-out-t47 c = omega (arith, c .before .before .before .before .before .before .before .before .pre)
 
 add-t48 : tie.Need-add-t48
-add-t48 c = search needs
+add-t48 c = omega (arith, c .before .before .before .before .before .before .before .before .before .pre)
 
 mul-t49 : tie.Need-mul-t49
-mul-t49 c = search needs
+mul-t49 c = omega (arith, c .before .before .before .before .before .before .before .before .before .pre)
 
 element-copy-out-t52 : tie.Need-element-copy-out-t52
-element-copy-out-t52 c = search needs
+element-copy-out-t52 c = omega (arith, c .before .before .before .before .before .before .before .before .before .pre)
 
 add-t53 : tie.Need-add-t53
-add-t53 c = search needs
+add-t53 c = omega (arith, c .before .before .before .before .before .before .before .before .before .before .pre)
 
 mul-t54 : tie.Need-mul-t54
-mul-t54 c = search needs
+mul-t54 c = omega (arith, c .before .before .before .before .before .before .before .before .before .before .pre)
 
 element-copy-out-t57 : tie.Need-element-copy-out-t57
-element-copy-out-t57 c = search needs
+element-copy-out-t57 c = omega (arith, c .before .before .before .before .before .before .before .before .before .before .pre)
 
 returns : tie.Need-returns
 returns c = let t = c .before .before .before .before .before .before .before .before .before .before .before .args .places .now in
