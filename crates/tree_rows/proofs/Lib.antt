@@ -1,3 +1,4 @@
 pub mod Rows
 pub mod Damage
 pub mod Conditions
+pub mod Sound

@@ -4,11 +4,10 @@ ghost use lib.ListN.{length};
 ghost use Rattle.tree_state.specs.declared.Tree.{Tree};
 ghost use Rattle.tree_state.specs.Sound.{soundTree};
 ghost use Rattle.tree_sound.specs.Parts as spec;
+use sound_parts::entries;
+use sound_parts::nodes;
+use sound_parts::slots;
 use tree_state::Tree;
-
-mod entries;
-mod nodes;
-mod slots;
 
 // Inner: the test over the tables of a tree, whose other tables it does not read.
 pub fn sound_tables<'a>(
