@@ -45,8 +45,12 @@ few s =
     let A = s .args in
     (few-places (A .places .now) (A .n) (A .clips .now) (A .m) (s .pre), few-clips (A .places .now) (A .n) (A .clips .now) (A .m) (s .pre))
 
+-- a place is left
+low : (c : tie.In-loop Inv-loop μ-loop) → c .before .loop .i < begin (c .before) .args .n
+low c = omega (arith, c .loop-test .taken)
+
 place-at-requires : tie.Need-place-at-requires Inv-loop μ-loop
-place-at-requires c κs = omega (arith, c .loop-test .taken, few (begin (c .before)) .0)
+place-at-requires c κs = omega (arith, low c, few (begin (c .before)) .0)
 
 add-clip-for : tie.Need-add-clip-for Inv-loop μ-loop
 add-clip-for c = search needs
@@ -55,7 +59,7 @@ clip-for-requires : tie.Need-clip-for-requires Inv-loop μ-loop
 clip-for-requires c κs =
     let s = begin (c .before .before) in
     let A = s .args in
-    (few s .1, omega (arith, c .before .loop-test .taken, few s .0), clips-ranged (A .places .now) (A .n) (A .clips .now) (A .m) (s .pre))
+    (few s .1, omega (arith, low (c .before), few s .0), clips-ranged (A .places .now) (A .n) (A .clips .now) (A .m) (s .pre))
 
 -- the row's line, whose insert is accepted
 line : (c : tie.After-place-at Inv-loop μ-loop) → c .place-at .result ≡ placeOf (rowAt 11 (c .before .before .loop .i) (begin (c .before .before) .args .places .now))
@@ -67,7 +71,7 @@ accepted c =
     let l = c .before .before in
     let s = begin l in
     let A = s .args in
-    rw (line c) (place-accepted (A .places .now) (A .n) (A .clips .now) (A .m) (s .pre) (l .loop .i) (c .before .loop-test .taken))
+    rw (line c) (place-accepted (A .places .now) (A .n) (A .clips .now) (A .m) (s .pre) (l .loop .i) (low (c .before)))
 
 parent-in-requires : tie.Need-parent-in-requires Inv-loop μ-loop
 parent-in-requires c κs = let a = accepted (c .before) in (a .upward, a .earlier)
@@ -80,14 +84,20 @@ parent : (c : tie.After-parent-in Inv-loop μ-loop) → let l = c .before .befor
     c .parent-in .result ≡ parentAt (natAbs (placeOf (rowAt 11 (l .loop .i) (begin l .args .places .now)) .parent))
 parent c = c .parent-in .ensures ∙ ap (λ (p : PlaceLine). parentAt (natAbs (p .parent))) (line (c .before .before))
 
--- and its local record, with its clip
+-- its clip
+clip : (c : tie.After-clip-for Inv-loop μ-loop) → let l = c .before .before .before in let A = begin l .args in
+    c .clip-for .result ≡ clipFor (rowsOf 6 (A .m) (A .clips .now)) (suc (l .loop .i))
+clip c =
+    let l = c .before .before .before in
+    let A = begin l .args in
+    c .clip-for .ensures ∙ ap (clipFor (rowsOf 6 (A .m) (A .clips .now))) (add-one (l .loop .i))
+
+-- and its local record
 local : (c : tie.After-local-of Inv-loop μ-loop) → let l = c .before .before .before .before .before in let A = begin l .args in
     c .local-of .result ≡ localOf (placeOf (rowAt 11 (l .loop .i) (A .places .now))) (clipFor (rowsOf 6 (A .m) (A .clips .now)) (suc (l .loop .i)))
 local c =
     let k = c .before .before in
-    let l = k .before .before .before in
-    let A = begin l .args in
-    c .local-of .ensures ∙ rw (line (k .before), k .clip-for .ensures, add-one (l .loop .i))
+    c .local-of .ensures ∙ rw (line (k .before), clip k)
 
 abbrev from-lent : tie.After-changed-clip2 Inv-loop μ-loop → tie.After-local-of Inv-loop μ-loop
 from-lent c = c .before .before .before .before .before .before .before .before .before .before .before .before .before
@@ -100,12 +110,12 @@ insert-place-requires c κs =
     let s = begin l in
     let A = s .args in
     fits (l .loop .generation) (l .loop .order) (l .loop .depth) (l .loop .bounds) (l .loop .slop) (l .loop .transform) (l .loop .kind) (l .loop .clip) (l .loop .level) (l .loop .flags) (l .loop .marked) (l .loop .changed) (l .loop .changed-clip)
-    (A .places .now) (A .n) (A .clips .now) (A .m) (s .pre) (l .loop .i) (p .before .before .before .loop-test .taken) (l .loop .inv .1) (p .parent-in .result) (parent p)
+    (A .places .now) (A .n) (A .clips .now) (A .m) (s .pre) (l .loop .i) (low (p .before .before .before)) (l .loop .inv .1) (p .parent-in .result) (parent p)
 
 add-i : tie.Need-add-i Inv-loop μ-loop
 add-i c =
     let l = from-lent (c .before) .before .before .before .before in
-    omega (arith, l .loop-test .taken, few (begin (l .before)) .0)
+    omega (arith, low l, few (begin (l .before)) .0)
 
 loop-less : tie.Need-loop-less Inv-loop μ-loop
 loop-less c = search needs
@@ -117,10 +127,10 @@ loop-again c =
     let l = p .before .before .before .before in
     let s = begin l in
     let A = s .args in
-    let low = p .before .before .before .loop-test .taken in (
-      omega (arith, low),
+    let h = low (p .before .before .before) in (
+      omega (arith, h),
       next (l .loop .generation) (l .loop .order) (l .loop .depth) (l .loop .bounds) (l .loop .slop) (l .loop .transform) (l .loop .kind) (l .loop .clip) (l .loop .level) (l .loop .flags) (l .loop .marked) (l .loop .changed) (l .loop .changed-clip)
-          (A .places .now) (A .n) (A .clips .now) (A .m) (s .pre) (l .loop .i) low (l .loop .inv .1) (p .parent-in .result) (parent p) (v .local-of .result) _ (local v) (c .insert-place .ensures),
+          (A .places .now) (A .n) (A .clips .now) (A .m) (s .pre) (l .loop .i) h (l .loop .inv .1) (p .parent-in .result) (parent p) (v .local-of .result) _ (local v) (c .insert-place .ensures),
     )
 
 returns : tie.Need-returns Inv-loop μ-loop
