@@ -3,7 +3,7 @@ use Prim.Native.Nat.{ℕ, zero, suc, _+_, _*_, _<_}
 use mathlib.Core.Path.{_≡_, refl, sym, ap, _∙_}
 use mathlib.Core.Bool.{Bool, true, false}
 use mathlib.Core.List.{List, [], _∷_}
-use lib.ListN.{getD, set, take, replicate}
+use lib.ListN.{set, take, replicate}
 use lib.IntN.{ℤ}
 use lib.Ieee.{Float}
 use Rattle.numbers.specs.Rounded as float
@@ -28,7 +28,7 @@ use Rattle.tree_state.specs.declared.Pending.{Pending}
 use Rattle.tree_state.specs.declared.Tree.{Tree}
 use Rattle.tree_state.specs.Tree.{freshTree}
 use Rattle.tree_steps.specs.Structure.{linkNew, storeLocal, clearBoxes, withoutKey, insertTree}
-use Rattle.sheet_inserts.specs.Places.{slots, links, locals, marks, tree, spotOf, depthOf, Placed, Fits}
+use Rattle.sheet_inserts.specs.Places.{slots, links, locals, marks, tree, spotOf, depthOf, Placed}
 
 -- ---- the links
 

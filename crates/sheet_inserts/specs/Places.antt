@@ -6,7 +6,6 @@ use mathlib.Core.List.{List}
 use lib.ListN.{length, getD, take}
 use lib.IntN.{ℤ}
 use lib.Ieee.{Float}
-use Rattle.boxes.specs.declared.NodeId.{NodeId}
 use Rattle.box_types.specs.declared.OptionNodeId.{OptionNodeId}
 use Rattle.box_types.specs.declared.OptionNodeId.the-variants as node
 use Rattle.forest.specs.Table.{segEnd, indexOf, depthsFrom}

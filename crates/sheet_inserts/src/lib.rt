@@ -2,7 +2,6 @@
 // generation 1; the tables that an insert does not change there are not lent.
 ghost use mathlib.Core.Path.{_≡_};
 ghost use Prim.Native.Nat.{_+_, _<_, _≤_};
-ghost use lib.ListN.{length};
 ghost use Rattle.box_types.specs.Local as local_spec;
 ghost use Rattle.tree_steps.specs.Structure as step;
 ghost use Rattle.sheet_inserts.specs.Places as spec;

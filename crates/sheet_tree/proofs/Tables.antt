@@ -7,8 +7,6 @@ use native.Mathlib.Numerals.{add-one}
 use lib.IntN.{ℤ, natAbs}
 use lib.ListN.{take}
 use lib.Ieee.{Float}
-use Rattle.clips.specs.declared.clip.Clip.{Clip}
-use Rattle.boxes.specs.declared.NodeId.{NodeId}
 use Rattle.box_types.specs.declared.LocalNode.{LocalNode}
 use Rattle.box_types.specs.declared.OptionNodeId.{OptionNodeId}
 use Rattle.box_types.specs.declared.OptionNodeId.the-variants as node
@@ -22,7 +20,6 @@ use Rattle.tree_nodes.proofs.Nodes.{Held, sound-held, live-node}
 use Rattle.keep_calls.proofs.Accepted.{insert-accepted}
 use Rattle.agree_calls.proofs.Fresh.{sound-fresh}
 use Rattle.demand3.proofs.Soundness.{run-keeps}
-use Rattle.plan_sheet.specs.declared.PlaceLine.{PlaceLine}
 use Rattle.plan_sheet.specs.Sheet.{Sheet, placeOf}
 use Rattle.plan_sheet.specs.Told.{rowsOf, rowAt}
 use Rattle.sheet_calls.specs.Calls.{parentAt, localOf, clipFor, insertsFrom}

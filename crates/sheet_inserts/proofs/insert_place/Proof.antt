@@ -1,5 +1,4 @@
 -- `sheet_inserts::insert_place` meets its contract. Assumes nothing.
-use native.Mathlib.Omega.{arith}
 use borrow.Author.Needs.{needs}
 use Rattle.sheet_inserts.specs.Places.{tree}
 use Rattle.sheet_inserts.proofs.Stores.{linked, placed}

@@ -1,5 +1,5 @@
 -- `sheet_tree::parent_in` meets its contract. Assumes nothing.
-use mathlib.Core.Path.{_≡_, ap, _∙_}
+use mathlib.Core.Path.{ap, _∙_}
 use native.Mathlib.Omega.{arith}
 use lib.IntN.{natAbs}
 use Rattle.sheet_calls.specs.Calls.{parentAt}
