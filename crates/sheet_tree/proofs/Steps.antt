@@ -10,14 +10,16 @@ use lib.ListN.{length, take, getD}
 use lib.Seq.{length-take-le}
 use borrow.Author.Tests.{leb-true}
 use Rattle.numbers.proofs.Bools.{clash, and-right}
+use Rattle.clips.specs.declared.clip.Clip.{Clip}
 use Rattle.box_types.specs.declared.OptionNodeId.the-variants as node
+use Rattle.tree_state.specs.declared.Tree.{Tree}
 use Rattle.tree_state.specs.declared.Verdict.the-variants as is
-use Rattle.tree_steps.specs.Structure.{insertTree}
+use Rattle.tree_steps.specs.Structure.{insertVerdict, insertTree}
 use Rattle.tree_steps.specs.Commit.{commitTree}
 use Rattle.tree_run.specs.Run as tree
 use Rattle.plan.specs.Calls as call
 use Rattle.plan_sheet.specs.declared.PlaceLine.{PlaceLine}
-use Rattle.plan_sheet.specs.Sheet.{Sheet, placeOf, clipOf, clipInRange, parentEarlier, placeRule, clipRule}
+use Rattle.plan_sheet.specs.Sheet.{Sheet, placeOf, clipOf, placeInRange, clipInRange, parentEarlier, placeRule, clipRule}
 use Rattle.sheet_calls.specs.Calls.{parentAt, localOf, clipFor, insertOf}
 use Rattle.sheet_calls.specs.Good.{Good, Fair}
 use Rattle.sheet_calls.proofs.Inserts.{passes-at}
@@ -25,7 +27,7 @@ use Rattle.plan_sheet.specs.Told.{rowsOf, rowAt}
 use Rattle.sheet_laws.specs.Built.{treeUpTo, treeOf}
 use Rattle.sheet_laws.proofs.Tree.{insert-accepted, insert-next, commit-last}
 use Rattle.sheet_laws.proofs.Tables.{rows-many, rows-at}
-use Rattle.sheet_tree.specs.Rows.{sheetOf, ClipsRanged, Accepted}
+use Rattle.sheet_tree.specs.Rows.{sheetOf, ClipsRanged}
 
 pub no-parent : (n : ℕ) → n ≡ 0 → node.None ≡ parentAt n
 no-parent zero e = refl
@@ -45,6 +47,13 @@ upward (negsuc k) n h = clash (sym h)
 parent-told : (before : List (List ℤ)) (p : PlaceLine) → parentEarlier before p ≡ true → (p .parent ≡ pos (natAbs (p .parent))) × (natAbs (p .parent) ≤ length before)
 unfolding parentEarlier
 parent-told before p h = upward (p .parent) (length before) h
+
+-- a place's line whose insert, with that clip, nothing refuses
+pub record Accepted (t : Tree) (p : PlaceLine) (c : Clip) : Type 0 where
+  pub ranged : placeInRange p ≡ true
+  pub upward : p .parent ≡ pos (natAbs (p .parent))
+  pub earlier : natAbs (p .parent) ≤ 256
+  pub verdict : insertVerdict t (parentAt (natAbs (p .parent))) (localOf p c) ≡ is.Accepted
 
 module _ (places : List ℤ) (n : ℕ) (clips : List ℤ) (m : ℕ) (g : Good (sheetOf places n clips m)) where
   pub few-places : n ≤ 256

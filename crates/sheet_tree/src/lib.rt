@@ -7,13 +7,15 @@ ghost use Rattle.plan_sheet.specs.Told.{rowsOf};
 ghost use Rattle.sheet_calls.specs.Calls as call;
 ghost use Rattle.sheet_calls.specs.Good.{Good};
 ghost use Rattle.sheet_laws.specs.Built.{treeUpTo, treeOf};
-ghost use Rattle.tree_state.specs.declared.Verdict.the-variants as is;
-ghost use Rattle.tree_steps.specs.Structure as step;
 ghost use Rattle.sheet_tree.specs.Rows as spec;
 use box_types::OptionNodeId;
 use boxes::NodeId;
 use clips::clip::Clip;
+use links::Links;
 use plan_sheet::PlaceLine;
+use tree_state::Locals;
+use tree_state::Marks;
+use tree_state::Slots;
 use tree_state::Tree;
 
 // ---- clips
@@ -62,31 +64,98 @@ fn parent_of(k: i64) -> OptionNodeId
     OptionNodeId::Some(NodeId(n - 1, 1))
 }
 
-fn insert_place(t: Tree, p: PlaceLine, clip: Clip) -> Tree
-    requires { ⌜ spec.Accepted t p clip ⌝ }
-    ensures { λ r. ⌜ r ≡ step.insertTree t (call.parentAt (natAbs (p .parent))) (call.localOf p clip) ⌝ }
+fn parent_in(p: PlaceLine) -> OptionNodeId
+    requires { ⌜ (p .parent ≡ pos (natAbs (p .parent))) × (natAbs (p .parent) ≤ 256) ⌝ }
+    ensures { λ r. ⌜ r ≡ call.parentAt (natAbs (p .parent)) ⌝ }
 {
-    let parent = parent_of(p.parent);
-    let local = sheet_nodes::local_of(p, clip);
-    let after = tree_insert::insert_accepted(t, parent, local);
-    let tree = after.tree;
-    tree
+    parent_of(p.parent)
 }
 
-// Every place, in order.
+// Every place, in order, into the tables of a fresh tree.
 fn insert_all(places: &[i64; 2816], n: usize, clips: &[i64; 1536], m: usize) -> Tree
     requires { ⌜ Good (spec.sheetOf (now places) n (now clips) m) ⌝ }
     ensures { λ r. ⌜ r ≡ treeUpTo (spec.sheetOf (now (places .entry)) n (now (clips .entry)) m) n ⌝ }
 {
-    let mut t = tree_state::fresh();
+    let t = tree_state::fresh();
+    let slots = t.slots;
+    let links = t.links;
+    let locals = t.locals;
+    let worlds = t.worlds;
+    let marks = t.marks;
+    let keys = t.keys;
+    let pending = t.pending;
+    let index = t.index;
+    let mut generation = slots.generation;
+    let free = slots.free;
+    let mut order = links.order;
+    let mut depth = links.depth;
+    let mut bounds = locals.bounds;
+    let mut slop = locals.slop;
+    let mut transform = locals.transform;
+    let mut kind = locals.kind;
+    let mut clip = locals.clip;
+    let mut level = locals.level;
+    let mut flags = locals.flags;
+    let mut marked = marks.marked;
+    let mut changed = marks.transform;
+    let mut changed_clip = marks.clip;
     let mut i = 0;
     while i < n {
         let p = sheet_rows::place_at(places, i);
-        let clip = clip_for(clips, m, i + 1);
-        t = insert_place(t, p, clip);
+        let own = clip_for(clips, m, i + 1);
+        let parent = parent_in(p);
+        let local = sheet_nodes::local_of(p, own);
+        sheet_inserts::insert_place(
+            &mut generation,
+            &mut order,
+            &mut depth,
+            &mut bounds,
+            &mut slop,
+            &mut transform,
+            &mut kind,
+            &mut clip,
+            &mut level,
+            &mut flags,
+            &mut marked,
+            &mut changed,
+            &mut changed_clip,
+            i,
+            parent,
+            local,
+        );
         i += 1;
     }
-    t
+    Tree {
+        slots: Slots {
+            generation,
+            used: n,
+            free,
+            frees: 0,
+        },
+        links: Links {
+            order,
+            depth,
+            count: n,
+        },
+        locals: Locals {
+            bounds,
+            slop,
+            transform,
+            kind,
+            clip,
+            level,
+            flags,
+        },
+        worlds,
+        marks: Marks {
+            marked,
+            transform: changed,
+            clip: changed_clip,
+        },
+        keys,
+        pending,
+        index,
+    }
 }
 
 // Inner: the tree of a good sheet, n places and m clips in their tables.
