@@ -1,13 +1,13 @@
-// Listings (tree.rs: intersect_rect, containing_point): ids in front of lent room, in entry order; and the verdict that every request shares.
+// Listings (tree.rs: intersect_rect, containing_point): ids in front of lent room, in entry order.
 ghost use mathlib.Core.Path.{_≡_};
 ghost use mathlib.Core.Bool.{true, _&&_, cond};
 ghost use mathlib.Core.List.{_∷_, []};
-ghost use Prim.Native.Nat.{_+_, _*_, _<_, _≤_};
+ghost use Prim.Native.Nat.{ℕ, _+_, _*_, _<_, _≤_};
 ghost use lib.ListN.{length, getD};
 ghost use Rattle.box_types.specs.Local.{rectToAabb};
 ghost use Rattle.cells.specs.Stride.{store};
 ghost use Rattle.index_query.specs.Query.{visits};
-ghost use Rattle.tree_state.specs.declared.Verdict.the-variants as is;
+ghost use Rattle.tree_state.specs.declared.Tree.{Tree};
 ghost use Rattle.tree_steps.specs.Requests as request;
 ghost use Rattle.tree_listings.specs.Listings as spec;
 use box_types::NodeFlags;
@@ -24,20 +24,6 @@ use tree_state::Verdict;
 pub enum Listed {
     Nodes(usize),
     Refused(Refusal),
-}
-
-// 1, 6, 7, 8: room of this length is too short for 256 ids.
-pub fn verdict(t: Tree, asked: NodeFlags, len: usize) -> Verdict
-    ensures { λ r. ⌜ r ≡ request.requestVerdict t asked len ⌝ }
-{
-    let held = tree_nodes::held(t);
-    let Verdict::Accepted = held else {
-        return held;
-    };
-    let known = tree_state::check(held, asked.is_known(), Refusal::UnknownFlags);
-    let need = tree_need::needs_commit(t);
-    let fresh = tree_state::check(known, !need, Refusal::NeedsCommit);
-    tree_state::check(fresh, !(len < 512), Refusal::ShortRoom)
 }
 
 // Inner: an id at the place n of the room.
@@ -96,28 +82,40 @@ fn as_given(rect: Rect) -> Aabb2D
     box_types::rect_to_aabb(rect)
 }
 
-// The listing of an accepted call: no entry stands beyond what is used.
-fn list(t: Tree, rect: Rect, asked: NodeFlags, room: &mut [u32]) -> usize
-    requires { ⌜ request.requestVerdict t asked (length (now room)) ≡ is.Accepted ⌝ }
-    ensures { λ r. ⌜ (now (room .exit) ≡ request.idsInFront (request.rectNodes t asked rect) (now (room .entry))) × (r ≡ length (request.rectNodes t asked rect)) ⌝ }
+// The listing on the tree whose tables these are: no test, and no copy of the tree. No entry stands beyond what is used.
+fn list<'a>(
+    present: &'a [u8; 512],
+    boxes: &'a [f64; 2048],
+    mark: &'a [u8; 512],
+    payload: &'a [u32; 1024],
+    flags: &'a [u8; 256],
+    bounds: &'a [f64; 1024],
+    generation: &'a [u32; 256],
+    used: usize,
+    rect: Rect,
+    asked: NodeFlags,
+    room: &mut [u32],
+) -> usize
+    requires { ⌜ spec.Carried (now mark) (now payload) × (used ≤ 512) × ((k : ℕ) → used ≤ k → getD (now mark) k 0 ≡ 0) × (512 ≤ length (now room)) ⌝ }
+    ensures { λ r. ⌜ ((t : Tree) → (now (room .exit) ≡ request.idsInFront (request.rectNodes (spec.lent t (now (present .entry)) (now (boxes .entry)) (now (mark .entry)) (now (payload .entry)) (now (flags .entry)) (now (bounds .entry)) (now (generation .entry)) used) asked rect) (now (room .entry))) × (r ≡ length (request.rectNodes (spec.lent t (now (present .entry)) (now (boxes .entry)) (now (mark .entry)) (now (payload .entry)) (now (flags .entry)) (now (bounds .entry)) (now (generation .entry)) used) asked rect))) ⌝ }
 {
     let given = as_given(rect);
     let mut n = 0;
     let mut k = 0usize;
-    while k < t.index.used {
+    while k < used {
         let take = takes(
-            &t.index.backend.present,
-            &t.index.backend.boxes,
-            &t.index.mark,
-            &t.index.payload,
-            &t.locals.flags,
-            &t.worlds.bounds,
+            present,
+            boxes,
+            mark,
+            payload,
+            flags,
+            bounds,
             k,
             given,
             asked,
         );
-        let id = cells::id_at(&t.index.payload, k);
-        n = push_id(room, n, take, id.0, &t.slots.generation);
+        let id = cells::id_at(payload, k);
+        n = push_id(room, n, take, id.0, generation);
         k += 1;
     }
     n
@@ -129,11 +127,58 @@ pub fn intersect_rect(t: Tree, rect: Rect, filter: QueryFilter, room: &mut [u32]
     ensures rooms { λ _. ⌜ now (room .exit) ≡ spec.intersectRoom t (filter .«required_flags») rect (now (room .entry)) ⌝ }
 {
     let asked = filter.required_flags;
-    let v = verdict(t, asked, room.len());
+    let len = room.len();
+    let v = tree_verdict::verdict(
+        &t.links.order,
+        &t.links.depth,
+        &t.slots.generation,
+        &t.slots.free,
+        &t.locals.bounds,
+        &t.locals.slop,
+        &t.locals.transform,
+        &t.locals.kind,
+        &t.locals.clip,
+        &t.locals.flags,
+        &t.worlds.bounds,
+        &t.worlds.hit_bounds,
+        &t.marks.marked,
+        &t.marks.transform,
+        &t.marks.clip,
+        &t.keys.committed,
+        &t.keys.slot,
+        &t.keys.generation,
+        &t.index.mark,
+        &t.index.generation,
+        &t.index.payload,
+        &t.index.free,
+        &t.index.dirty,
+        t.links.count,
+        t.slots.used,
+        t.slots.frees,
+        t.pending.count,
+        t.index.frees,
+        t.index.queued,
+        t.index.used,
+        asked,
+        len,
+    );
     if let Verdict::Refused(r) = v {
         return Listed::Refused(r);
     }
-    Listed::Nodes(list(t, rect, asked, room))
+    let n = list(
+        &t.index.backend.present,
+        &t.index.backend.boxes,
+        &t.index.mark,
+        &t.index.payload,
+        &t.locals.flags,
+        &t.worlds.bounds,
+        &t.slots.generation,
+        t.index.used,
+        rect,
+        asked,
+        room,
+    );
+    Listed::Nodes(n)
 }
 
 // The same of a point: a rectangle of no size.

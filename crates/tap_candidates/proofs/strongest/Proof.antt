@@ -1,4 +1,4 @@
--- `tree_taps::strongest` meets its contract: after k entries, the best is the strongest of the candidates among them, on every tree whose tables these
+-- `tap_candidates::strongest` meets its contract: after k entries, the best is the strongest of the candidates among them, on every tree whose tables these
 -- are; and none is beyond what is used. Assumes nothing.
 use mathlib.Core.Path.{_≡_, sym, ap, subst, _∙_}
 use mathlib.Core.Bool.{true}
@@ -11,10 +11,10 @@ use Rattle.tree_state.specs.declared.Tree.{Tree}
 use Rattle.tree_state.specs.Tree.{freshTree}
 use Rattle.tree_listings.specs.Listings.{carriedBy}
 use Rattle.tree_listings.proofs.Entries.{visits-used}
-use Rattle.tree_taps.specs.Taps.{Shown, lent}
-use Rattle.tree_taps.proofs.Tap.{Tapping, tap-none, tap-turn, tap-beyond, tap-ends, fineOf}
-use Rattle.tree_taps.proofs.strongest.Statement.{statement}
-use Rattle.tree_taps.proofs.strongest.Tie as tie
+use Rattle.tap_candidates.specs.Candidates.{Shown, lent}
+use Rattle.tap_candidates.proofs.Tap.{Tapping, tap-none, tap-turn, tap-beyond, tap-ends, fineOf}
+use Rattle.tap_candidates.proofs.strongest.Statement.{statement}
+use Rattle.tap_candidates.proofs.strongest.Tie as tie
 
 abbrev Inv-loop : tie.InvT-loop
 Inv-loop present boxes mark payload flags level bounds slop kind clip transform order depth generation n used asked point here best₀ k₀ best k =

@@ -1,7 +1,7 @@
 use borrow.Author.Tests.{not-true, not-false, eq-eqb, ne-eqb}
-use Rattle.tree_taps.specs.Taps.{kept}
-use Rattle.tree_taps.proofs.keep.Statement.{statement}
-use Rattle.tree_taps.proofs.keep.Tie as tie
+use Rattle.tap_candidates.specs.Candidates.{kept}
+use Rattle.tap_candidates.proofs.keep.Statement.{statement}
+use Rattle.tap_candidates.proofs.keep.Tie as tie
 
 returns : tie.Need-returns
 returns c = rw (not-true (c .before .args .take) (c .if1 .taken))
