@@ -24,7 +24,7 @@ use Rattle.tree_steps.specs.Requests.{Best, nobody, best, keepOf, payloads, inS
 use Rattle.tree_nodes.proofs.Nodes.{Held}
 use Rattle.tree_sound.specs.Parts.{Sized}
 use Rattle.tree_need.proofs.Walks.{sound-places, sound-used}
-use Rattle.tree_listings.proofs.Entries.{nodeOf, keep-slots, carries-live}
+use Rattle.listing_entries.proofs.Entries.{nodeOf, keep-slots, carries-live}
 use Rattle.tap_candidates.specs.Candidates.{Shown, Tappable, clipHolds, reaches, fineAt, strongerAt, bestOf, kept}
 
 unseen : (p m o : Bool) → m ≡ false → p && (m && o) ≡ false

@@ -20,7 +20,7 @@ use Rattle.tree_state.specs.declared.Tree.{Tree}
 use Rattle.tree_state.specs.Sound.{everyOf}
 use Rattle.tree_steps.specs.Requests.{Best, nobody, best}
 use Rattle.tree_sound.specs.Parts.{Low}
-use Rattle.tree_listings.specs.Listings.{carriedBy}
+use Rattle.listing_entries.specs.Entries.{carriedBy}
 
 -- the slots above a place, the parent first
 abbrev pub above : List ℕ → List ℕ → ℕ → List ℕ

@@ -16,7 +16,7 @@ use Rattle.boxes.specs.declared.NodeId.{NodeId}
 use Rattle.cells.specs.Stride.{store}
 use Rattle.cells.specs.Cells.{ofId}
 use Rattle.tree_steps.specs.Requests.{idsInFront}
-use Rattle.tree_listings.proofs.Rooms.{back-one, front-none}
+use Rattle.listing_entries.proofs.Rooms.{back-one, front-none}
 use Rattle.tap_candidates.proofs.Climb.{back-none, back-here, back-past, turn-here, turn-past}
 pub use Rattle.tap_candidates.proofs.Climb.{back}
 

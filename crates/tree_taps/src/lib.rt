@@ -46,7 +46,7 @@ fn write_path<'a>(
 {
     let len = depth[at] as usize;
     let own = id_of(generation, x);
-    tree_listings::put_id(room, len - 1, own);
+    listing_entries::put_id(room, len - 1, own);
     let mut d = len;
     let mut j = at;
     while 0 < j { // up to the root's place
@@ -55,7 +55,7 @@ fn write_path<'a>(
         if e < d {
             d = e;
             let next = id_of(generation, order[j]);
-            tree_listings::put_id(room, d - 1, next);
+            listing_entries::put_id(room, d - 1, next);
         }
     }
     len

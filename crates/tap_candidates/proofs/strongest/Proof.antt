@@ -9,8 +9,8 @@ use Rattle.numbers.proofs.Bools.{and-left}
 use Rattle.boxes.specs.declared.NodeId.{NodeId}
 use Rattle.tree_state.specs.declared.Tree.{Tree}
 use Rattle.tree_state.specs.Tree.{freshTree}
-use Rattle.tree_listings.specs.Listings.{carriedBy}
-use Rattle.tree_listings.proofs.Entries.{visits-used}
+use Rattle.listing_entries.specs.Entries.{carriedBy}
+use Rattle.listing_entries.proofs.Entries.{visits-used}
 use Rattle.tap_candidates.specs.Candidates.{Shown, lent}
 use Rattle.tap_candidates.proofs.Tap.{Tapping, tap-none, tap-turn, tap-beyond, tap-ends, fineOf}
 use Rattle.tap_candidates.proofs.strongest.Statement.{statement}

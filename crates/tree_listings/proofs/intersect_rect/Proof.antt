@@ -7,7 +7,8 @@ use Rattle.tree_steps.specs.Requests.{requestVerdict, rectNodes}
 use Rattle.tree_nodes.proofs.Lengths.{sized}
 use Rattle.tree_need.proofs.Walks.{sound-used}
 use Rattle.tree_listings.proofs.Answers.{refused, answered}
-use Rattle.tree_listings.proofs.Entries.{accepted, carried}
+use Rattle.tree_verdict.proofs.Accepted.{accepted}
+use Rattle.listing_entries.proofs.Entries.{carried}
 use Rattle.tree_listings.proofs.intersect_rect.Statement.{statement}
 use Rattle.tree_listings.proofs.intersect_rect.Tie as tie
 

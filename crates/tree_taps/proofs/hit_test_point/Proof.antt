@@ -5,7 +5,7 @@ use Rattle.tree_state.specs.declared.Verdict.the-variants as is
 use Rattle.tree_steps.specs.Requests.{requestVerdict, hitNode, best}
 use Rattle.tree_nodes.proofs.Lengths.{sized}
 use Rattle.tree_need.proofs.Walks.{sound-places}
-use Rattle.tree_listings.proofs.Entries.{Accepted, accepted}
+use Rattle.tree_verdict.proofs.Accepted.{Accepted, accepted}
 use Rattle.tree_taps.specs.Taps.{Shown, bestOf}
 use Rattle.tree_taps.proofs.Tap.{best-none, best-some, path-at, tappable}
 use Rattle.tree_taps.proofs.Answers.{refused, nothing, hit}

@@ -3,8 +3,8 @@ use Prim.Native.Nat.{_<_}
 use native.Mathlib.Omega.{arith}
 use borrow.Author.Needs.{needs}
 use borrow.Author.Tests.{not-true, not-false}
-use Rattle.tree_listings.proofs.push_id.Statement.{statement}
-use Rattle.tree_listings.proofs.push_id.Tie as tie
+use Rattle.listing_entries.proofs.push_id.Statement.{statement}
+use Rattle.listing_entries.proofs.push_id.Tie as tie
 
 returns : tie.Need-returns
 returns c = rw (not-true (c .before .before .args .take) (c .if1 .taken)) (refl, refl)

@@ -4,10 +4,10 @@ use Prim.Native.Nat.{_<_}
 use borrow.Author.Needs.{needs}
 use borrow.Author.Tests.{not-true, not-false}
 use Rattle.index_query.specs.Query.{visits}
-use Rattle.tree_listings.specs.Listings.{carriedBy, meets}
-use Rattle.tree_listings.proofs.Entries.{visits-used}
-use Rattle.tree_listings.proofs.takes.Statement.{statement}
-use Rattle.tree_listings.proofs.takes.Tie as tie
+use Rattle.listing_entries.specs.Entries.{carriedBy, meets}
+use Rattle.listing_entries.proofs.Entries.{visits-used}
+use Rattle.listing_entries.proofs.takes.Statement.{statement}
+use Rattle.listing_entries.proofs.takes.Tie as tie
 
 visited-requires : tie.Need-visited-requires
 visited-requires c κs = search needs

@@ -2,8 +2,8 @@ use native.Mathlib.Numerals.{add-one}
 use native.Mathlib.Omega.{arith}
 use lib.ListN.{length-set}
 use borrow.Author.Needs.{needs}
-use Rattle.tree_listings.proofs.put_id.Statement.{statement}
-use Rattle.tree_listings.proofs.put_id.Tie as tie
+use Rattle.listing_entries.proofs.put_id.Statement.{statement}
+use Rattle.listing_entries.proofs.put_id.Tie as tie
 
 mul-at : tie.Need-mul-at
 mul-at c = search needs

@@ -1,4 +1,4 @@
--- `tree_listings::list` meets its contract: after k entries, those of them that are taken stand in front of the room, on every tree whose tables these
+-- `listing_entries::list` meets its contract: after k entries, those of them that are taken stand in front of the room, on every tree whose tables these
 -- are; and none is beyond what is used. Assumes nothing.
 use mathlib.Core.Path.{_≡_, refl, sym, ap, _∙_}
 use mathlib.Core.Bool.{true}
@@ -12,11 +12,11 @@ use Rattle.index_query.specs.Query.{slots}
 use Rattle.tree_state.specs.declared.Tree.{Tree}
 use Rattle.tree_state.specs.Tree.{freshTree}
 use Rattle.tree_steps.specs.Requests.{rectNodes}
-use Rattle.tree_listings.specs.Listings.{lent}
-use Rattle.tree_listings.proofs.Rooms.{push-length}
-use Rattle.tree_listings.proofs.Entries.{Listing, listing-none, listing-next, slots-more, idOf, takes, taken-low, taken-few, rect-listed, listing-used, not-taken, listing-ends}
-use Rattle.tree_listings.proofs.list.Statement.{statement}
-use Rattle.tree_listings.proofs.list.Tie as tie
+use Rattle.listing_entries.specs.Entries.{lent}
+use Rattle.listing_entries.proofs.Rooms.{push-length}
+use Rattle.listing_entries.proofs.Entries.{Listing, listing-none, listing-next, slots-more, idOf, takes, taken-low, taken-few, rect-listed, listing-used, not-taken, listing-ends}
+use Rattle.listing_entries.proofs.list.Statement.{statement}
+use Rattle.listing_entries.proofs.list.Tie as tie
 
 abbrev Inv-loop : tie.InvT-loop
 Inv-loop present boxes mark payload flags bounds generation used asked room₀ given n₀ k₀ room n k =
