@@ -1,9 +1,8 @@
--- What a tap answers, by its verdict; and `pathTo` over the tables that a function is lent.
-use mathlib.Core.List.{List, _∷_, reverse, map}
+-- What a tap answers, by its verdict.
+use mathlib.Core.List.{List}
 use Prim.Native.Nat.{ℕ}
-use lib.ListN.{length, getD}
+use lib.ListN.{length}
 use Rattle.geometry.specs.declared.point.Point.{Point}
-use Rattle.boxes.specs.declared.NodeId.{NodeId}
 use Rattle.box_types.specs.declared.NodeFlags.{NodeFlags}
 use Rattle.tree_state.specs.declared.Tree.{Tree}
 use Rattle.tree_state.specs.declared.Verdict.{Verdict}
@@ -14,8 +13,10 @@ use Rattle.tree_steps.specs.Requests.{Best, nobody, best, pathTo}
 use Rattle.tree_listings.specs.Listings.{roomIf}
 use Rattle.tree_taps.specs.declared.Tapped.{Tapped}
 use Rattle.tree_taps.specs.declared.Tapped.the-variants as tapped
-pub use Rattle.tap_candidates.specs.Candidates.{above, Shown}
+pub use Rattle.tap_candidates.specs.Candidates.{Shown}
 unfoldable pub use Rattle.tap_candidates.specs.Candidates.{bestOf}
+pub use Rattle.tap_paths.specs.Paths.{idIn}
+unfoldable pub use Rattle.tap_paths.specs.Paths.{pathAt}
 
 -- the id, and how many ids stand in front of the room: the path from the root
 abbrev pub hitOf : Tree → Best → Tapped
@@ -33,12 +34,3 @@ tapCall t asked pt len = tappedIf (request.requestVerdict t asked len) t (reques
 
 abbrev pub tapRoom : Tree → NodeFlags → Point → List ℕ → List ℕ
 tapRoom t asked pt room = roomIf (request.requestVerdict t asked (length room)) (request.pathOf t (request.hitNode t asked pt)) room
-
--- ---- over tables
-
-abbrev pub idIn : List ℕ → ℕ → NodeId
-idIn generation x = record { 0 = x; 1 = getD generation x 0 }
-
--- from the root down to x, which stands at the place i
-unfoldable pub pathAt : List ℕ → List ℕ → List ℕ → ℕ → ℕ → List NodeId
-pathAt order depth generation x i = map (idIn generation) (reverse (x ∷ above order depth i))

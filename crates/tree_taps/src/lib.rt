@@ -1,11 +1,6 @@
 // Taps (tree.rs: hit_test_point, path_to_root): the strongest node that the point reaches, and its path from the root in lent room.
 ghost use mathlib.Core.Path.{_≡_};
-ghost use mathlib.Core.Bool.{true};
-ghost use Prim.Native.Nat.{_<_, _≤_};
-ghost use lib.ListN.{length, take};
-ghost use Rattle.forest.specs.Table.{depthsFrom};
-ghost use Rattle.tree_sound.specs.Parts.{Low};
-ghost use Rattle.tree_steps.specs.Requests as request;
+ghost use lib.ListN.{length};
 ghost use Rattle.tree_taps.specs.Taps as spec;
 use box_types::QueryFilter;
 use boxes::NodeId;
@@ -20,45 +15,6 @@ pub enum Tapped {
     Nothing,
     Hit(NodeId, usize),
     Refused(Refusal),
-}
-
-// The id of a slot.
-fn id_of(generation: &[u32; 256], x: u32) -> NodeId
-    requires { ⌜ x < 256 ⌝ }
-    ensures { λ r. ⌜ r ≡ spec.idIn (now (generation .entry)) x ⌝ }
-{
-    NodeId(x, generation[x as usize])
-}
-
-// The path from the root to x, which stands at the place `at`, in front of the room: the node last, each of the slots above it before. How
-// many: its depth.
-fn write_path<'a>(
-    order: &'a [u32; 256],
-    depth: &'a [u32; 256],
-    generation: &'a [u32; 256],
-    n: usize,
-    x: u32,
-    at: usize,
-    room: &mut [u32],
-) -> usize
-    requires { ⌜ (at < n) × (n ≤ 256) × (x < 256) × (length (now order) ≡ 256) × (length (now depth) ≡ 256) × (depthsFrom 0 (take n (now depth)) ≡ true) × Low (now order) n × (512 ≤ length (now room)) ⌝ }
-    ensures { λ r. ⌜ (now (room .exit) ≡ request.idsInFront (spec.pathAt (now (order .entry)) (now (depth .entry)) (now (generation .entry)) x at) (now (room .entry))) × (r ≡ length (spec.pathAt (now (order .entry)) (now (depth .entry)) (now (generation .entry)) x at)) ⌝ }
-{
-    let len = depth[at] as usize;
-    let own = id_of(generation, x);
-    listing_entries::put_id(room, len - 1, own);
-    let mut d = len;
-    let mut j = at;
-    while 0 < j { // up to the root's place
-        j -= 1;
-        let e = depth[j] as usize;
-        if e < d {
-            d = e;
-            let next = id_of(generation, order[j]);
-            listing_entries::put_id(room, d - 1, next);
-        }
-    }
-    len
 }
 
 // The strongest node that the point reaches, and its path.
@@ -130,8 +86,8 @@ pub fn hit_test_point(t: Tree, point: Point, filter: QueryFilter, room: &mut [u3
     }
     let x = best as u32;
     let at = links::position(&t.links.order, t.links.count, x);
-    let own = id_of(&t.slots.generation, x);
-    let deep = write_path(
+    let own = tap_paths::id_of(&t.slots.generation, x);
+    let deep = tap_paths::write_path(
         &t.links.order,
         &t.links.depth,
         &t.slots.generation,

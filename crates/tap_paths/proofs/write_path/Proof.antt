@@ -6,11 +6,12 @@ use lib.ListN.{length, getD}
 use lib.Seq.{length-sets}
 use Rattle.cells.specs.Cells.{ofId}
 use Rattle.tree_steps.specs.Requests.{idsInFront}
-use Rattle.tree_taps.specs.Taps.{above, idIn, pathAt}
-use Rattle.tree_taps.proofs.Climb.{back, deep-one, deep-most, path-turn, path-skip, path-ends}
+use Rattle.tap_candidates.specs.Candidates.{above}
+use Rattle.tap_paths.specs.Paths.{idIn, pathAt}
+use Rattle.tap_paths.proofs.Climb.{back, deep-one, deep-most, path-turn, path-skip, path-ends}
 use borrow.Author.Needs.{needs}
-use Rattle.tree_taps.proofs.write_path.Statement.{statement}
-use Rattle.tree_taps.proofs.write_path.Tie as tie
+use Rattle.tap_paths.proofs.write_path.Statement.{statement}
+use Rattle.tap_paths.proofs.write_path.Tie as tie
 
 abbrev Inv-loop : tie.InvT-loop
 Inv-loop order depth generation n x at room₀ len d₀ j₀ room d j = (j ≤ at) × (1 ≤ d) × (d ≤ getD depth j 0) × (length room ≡ length room₀) × (idsInFront (map (idIn generation) (reverse (back d order depth j))) room ≡ idsInFront (map (idIn generation) (reverse (above order depth at))) room₀)
