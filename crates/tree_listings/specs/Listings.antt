@@ -1,19 +1,11 @@
--- What a listing answers and leaves of the lent room, by its verdict; and what is read of one entry.
-use mathlib.Core.Path.{_≡_}
-use mathlib.Core.Bool.{Bool, _&&_}
+-- What a listing answers and leaves of the lent room, by its verdict.
 use mathlib.Core.List.{List}
-use Prim.Native.Nat.{ℕ, _<_}
-use lib.ListN.{length, getD}
-use lib.Ieee.{Float}
+use Prim.Native.Nat.{ℕ}
+use lib.ListN.{length}
 use Rattle.geometry.specs.declared.point.Point.{Point}
 use Rattle.geometry.specs.declared.rect.Rect.{Rect}
-use Rattle.boxes.specs.declared.Aabb2D.{Aabb2D}
 use Rattle.boxes.specs.declared.NodeId.{NodeId}
-use Rattle.boxes.specs.Boxes.{overlaps}
-use Rattle.cells.specs.Cells.{idAt}
 use Rattle.box_types.specs.declared.NodeFlags.{NodeFlags}
-use Rattle.box_types.specs.Local.{hasAll, flags, rectToAabb}
-use Rattle.node_tables.specs.Tables.{rectAt}
 use Rattle.tree_state.specs.declared.Verdict.{Verdict}
 use Rattle.tree_state.specs.declared.Verdict.the-variants as is
 use Rattle.tree_state.specs.declared.Tree.{Tree}
@@ -44,17 +36,3 @@ containingCall t asked pt len = listedIf (requestVerdict t asked len) (pointNode
 
 abbrev pub containingRoom : Tree → NodeFlags → Point → List ℕ → List ℕ
 containingRoom t asked pt room = roomIf (requestVerdict t asked (length room)) (pointNodes t asked pt) room
-
--- ---- entries
-
--- the slot of the node that an entry carries
-abbrev pub carriedBy : List ℕ → ℕ → ℕ
-carriedBy payload k = idAt payload k .0
-
--- entries in use carry nodes of the tables, no two the same: `entry` has the entry of a node
-abbrev pub Carried : List ℕ → List ℕ → Type 0
-Carried mark payload = (entry : ℕ → ℕ) × ((k : ℕ) → k < 512 → (getD mark k 0 ≡ 0 → ⊥) → (carriedBy payload k < 256) × (entry (carriedBy payload k) ≡ k))
-
--- a node has all asked flags, and its world box meets the rectangle
-unfoldable pub meets : List ℕ → List Float → NodeFlags → Aabb2D → ℕ → Bool
-meets fs bounds asked rect x = hasAll (flags (getD fs x 0)) asked && overlaps (rectToAabb (rectAt bounds x)) rect

@@ -1,14 +1,30 @@
+-- `tree_listings::intersect_rect` meets its contract: the verdict and the listing over its own tables, both at the tree itself. Assumes nothing.
 use mathlib.Core.Path.{_≡_, sym, _∙_}
 use lib.ListN.{length}
 use borrow.Author.Needs.{needs}
 use Rattle.tree_state.specs.declared.Verdict.the-variants as is
 use Rattle.tree_steps.specs.Requests.{requestVerdict, rectNodes}
+use Rattle.tree_nodes.proofs.Lengths.{sized}
+use Rattle.tree_need.proofs.Walks.{sound-used}
 use Rattle.tree_listings.proofs.Answers.{refused, answered}
+use Rattle.tree_verdict.proofs.Accepted.{accepted}
+use Rattle.listing_entries.proofs.Entries.{carried}
 use Rattle.tree_listings.proofs.intersect_rect.Statement.{statement}
 use Rattle.tree_listings.proofs.intersect_rect.Tie as tie
 
+-- before the tables are lent
+abbrev start : tie.After-verdict → tie.Start
+start c = c .before .before .before .before .before .before .before .before .before .before .before .before .before .before .before .before .before .before .before .before .before .before .before .before .before .before .before
+
 verdict-requires : tie.Need-verdict-requires
-verdict-requires c κs = search needs
+verdict-requires c κs =
+    let s = c .before .before .before .before .before .before .before .before .before .before .before .before .before .before .before .before .before .before .before .before .before .before .before .before .before .before in
+    let l = sized (s .args .t1) (s .good .0) in
+    (l .order, l .depth, l .free, l .mark, l .entries-free, l .dirty)
+
+-- the verdict, on the tree itself
+told : (c : tie.After-verdict) → let A = start c .args in c .verdict .result ≡ requestVerdict (A .t1) (A .filter .«required_flags») (length (A .room .now))
+told c = c .verdict .ensures (start c .args .t1)
 
 enum-known-v : tie.Need-enum-known-v
 enum-known-v c = search needs
@@ -16,30 +32,36 @@ enum-known-v c = search needs
 returns : tie.Need-returns
 returns c =
     let w = c .before .before .before in
-    let A = w .before .before .before .args in
+    let A = start w .args in
     let asked = A .filter .«required_flags» in
-    refused (requestVerdict (A .t) asked (length (A .room .now))) (rectNodes (A .t) asked (A .rect)) (A .room .now) _ (sym (w .verdict .ensures) ∙ c .before .v .given .1)
+    refused (requestVerdict (A .t1) asked (length (A .room .now))) (rectNodes (A .t1) asked (A .rect)) (A .room .now) _ (sym (told w) ∙ c .before .v .given .1)
 
 enum-told : tie.Need-enum-told
 enum-told c = search needs
 
--- the verdict
-yes : (c : tie.After-enum-told) → let A = c .before .before .before .before .before .args in requestVerdict (A .t) (A .filter .«required_flags») (length (A .room .now)) ≡ is.Accepted
-yes c = sym (c .before .before .verdict .ensures) ∙ c .enum-told .given .1
+yes : (c : tie.After-enum-told) → let A = start (c .before .before) .args in requestVerdict (A .t1) (A .filter .«required_flags») (length (A .room .now)) ≡ is.Accepted
+yes c = sym (told (c .before .before)) ∙ c .enum-told .given .1
 
 list-requires : tie.Need-list-requires
-list-requires c κs = yes (c .before)
+list-requires c κs =
+    let e = c .before .before .before .before .before .before .before .before .before in
+    let s = start (e .before .before) in
+    let A = s .args in
+    let z = sized (A .t1) (s .good .0) in
+    let a = accepted (A .t1) z (A .filter .«required_flags») (length (A .room .now)) (yes e) in
+    let u = sound-used (A .t1) z (a .whole .test) in
+    (carried (A .t1) (a .whole) (a .no-need), u .0, u .1, a .long)
 
 same-length : tie.Need-same-length
 same-length c = search needs
 
 returns-2 : tie.Need-returns-2
 returns-2 c =
-    let e = c .before .before .before .before in
-    let A = e .before .before .before .before .before .args in
+    let e = c .before .before .before .before .before .before .before .before .before .before .before .before in
+    let A = start (e .before .before) .args in
     let asked = A .filter .«required_flags» in
-    let L = c .before .before .list in
-    answered (requestVerdict (A .t) asked (length (A .room .now))) (rectNodes (A .t) asked (A .rect)) (A .room .now) _ _ (yes e) (L .ensures .0) (L .ensures .1)
+    let E = c .before .before .list .ensures (A .t1) in
+    answered (requestVerdict (A .t1) asked (length (A .room .now))) (rectNodes (A .t1) asked (A .rect)) (A .room .now) _ _ (yes e) (E .0) (E .1)
 
 pub intersect-rect-spec : {M : Type 1} → statement M
 intersect-rect-spec = tie.close (tie.spec verdict-requires enum-known-v returns enum-told list-requires same-length returns-2)

@@ -5,7 +5,7 @@ use Rattle.tree_state.specs.declared.Verdict.the-variants as is
 use Rattle.tree_steps.specs.Requests.{requestVerdict, hitNode, best}
 use Rattle.tree_nodes.proofs.Lengths.{sized}
 use Rattle.tree_need.proofs.Walks.{sound-places}
-use Rattle.tree_listings.proofs.Entries.{Accepted, accepted}
+use Rattle.tree_verdict.proofs.Accepted.{Accepted, accepted}
 use Rattle.tree_taps.specs.Taps.{Shown, bestOf}
 use Rattle.tree_taps.proofs.Tap.{best-none, best-some, path-at, tappable}
 use Rattle.tree_taps.proofs.Answers.{refused, nothing, hit}
@@ -13,8 +13,19 @@ use borrow.Author.Needs.{needs}
 use Rattle.tree_taps.proofs.hit_test_point.Statement.{statement}
 use Rattle.tree_taps.proofs.hit_test_point.Tie as tie
 
+-- before the tables are lent to the verdict
+abbrev start : tie.After-verdict → tie.Start
+start c = c .before .before .before .before .before .before .before .before .before .before .before .before .before .before .before .before .before .before .before .before .before .before .before .before .before .before .before
+
 verdict-requires : tie.Need-verdict-requires
-verdict-requires c κs = search needs
+verdict-requires c κs =
+    let s = c .before .before .before .before .before .before .before .before .before .before .before .before .before .before .before .before .before .before .before .before .before .before .before .before .before .before in
+    let l = sized (s .args .t1) (s .good .0) in
+    (l .order, l .depth, l .free, l .mark, l .entries-free, l .dirty)
+
+-- the verdict, on the tree itself
+judged : (c : tie.After-verdict) → let A = start c .args in c .verdict .result ≡ requestVerdict (A .t1) (A .filter .«required_flags») (length (A .room .now))
+judged c = c .verdict .ensures (start c .args .t1)
 
 enum-known-v : tie.Need-enum-known-v
 enum-known-v c = search needs
@@ -22,47 +33,46 @@ enum-known-v c = search needs
 returns : tie.Need-returns
 returns c =
     let w = c .before .before .before in
-    let A = w .before .before .before .args in
+    let A = start w .args in
     let asked = A .filter .«required_flags» in
-    refused (requestVerdict (A .t1) asked (length (A .room .now))) (A .t1) (hitNode (A .t1) asked (A .point)) (A .room .now) _ (sym (w .verdict .ensures) ∙ c .before .v .given .1)
+    refused (requestVerdict (A .t1) asked (length (A .room .now))) (A .t1) (hitNode (A .t1) asked (A .point)) (A .room .now) _ (sym (judged w) ∙ c .before .v .given .1)
 
 enum-told : tie.Need-enum-told
 enum-told c = search needs
 
--- the verdict
-yes : (c : tie.After-enum-told) → let A = c .before .before .before .before .before .args in requestVerdict (A .t1) (A .filter .«required_flags») (length (A .room .now)) ≡ is.Accepted
-yes c = sym (c .before .before .verdict .ensures) ∙ c .enum-told .given .1
+yes : (c : tie.After-enum-told) → let A = start (c .before .before) .args in requestVerdict (A .t1) (A .filter .«required_flags») (length (A .room .now)) ≡ is.Accepted
+yes c = sym (judged (c .before .before)) ∙ c .enum-told .given .1
 
-took : (c : tie.After-enum-told) → let A = c .before .before .before .before .before .args in Accepted (A .t1) (length (A .room .now))
+took : (c : tie.After-enum-told) → let A = start (c .before .before) .args in Accepted (A .t1) (length (A .room .now))
 took c =
-    let s = c .before .before .before .before .before in
+    let s = start (c .before .before) in
     let A = s .args in
     accepted (A .t1) (sized (A .t1) (s .good .0)) (A .filter .«required_flags») (length (A .room .now)) (yes c)
 
--- before the tables are lent
+-- before the tables are lent to the search
 abbrev from : tie.After-strongest → tie.After-enum-told
 from c = c .before .before .before .before .before .before .before .before .before .before .before .before .before .before .before .before
 
 strongest-requires : tie.Need-strongest-requires
 strongest-requires c κs =
     let e = c .before .before .before .before .before .before .before .before .before .before .before .before .before .before .before in
-    let s = e .before .before .before .before .before in
+    let s = start (e .before .before) in
     tappable (s .args .t1) (sized (s .args .t1) (s .good .0)) (took e .whole) (took e .no-need)
 
 -- the answer, on the tree itself
-told : (c : tie.After-strongest) → let A = (from c) .before .before .before .before .before .args in bestOf (c .strongest .result) ≡ hitNode (A .t1) (A .filter .«required_flags») (A .point)
-told c = c .strongest .ensures .0 ((from c) .before .before .before .before .before .args .t1)
+told : (c : tie.After-strongest) → let A = start ((from c) .before .before) .args in bestOf (c .strongest .result) ≡ hitNode (A .t1) (A .filter .«required_flags») (A .point)
+told c = c .strongest .ensures .0 (start ((from c) .before .before) .args .t1)
 
 returns-2 : tie.Need-returns-2
 returns-2 c =
     let e = from (c .before) in
-    let A = e .before .before .before .before .before .args in
+    let A = start (e .before .before) .args in
     let asked = A .filter .«required_flags» in
     let n = sym (ap bestOf (c .if1 .taken)) ∙ told (c .before) in
     nothing (requestVerdict (A .t1) asked (length (A .room .now))) (A .t1) (hitNode (A .t1) asked (A .point)) (A .room .now) (yes e) (sym n ∙ best-none (A .t1))
 
 -- the best is shown
-shown : (c : tie.Else1) → let A = (from (c .before)) .before .before .before .before .before .args in Shown (A .t1 .links .order) (A .t1 .links .count) (c .before .strongest .result)
+shown : (c : tie.Else1) → let A = start ((from (c .before)) .before .before) .args in Shown (A .t1 .links .order) (A .t1 .links .count) (c .before .strongest .result)
 shown c = c .before .strongest .ensures .1 (c .if1 .left)
 
 cast-x : tie.Need-cast-x
@@ -71,7 +81,7 @@ cast-x c = omega (arith, shown c .0)
 position-requires : tie.Need-position-requires
 position-requires c κs =
     let e = from (c .before .before .before) in
-    let s = e .before .before .before .before .before in
+    let s = start (e .before .before) in
     let p = sound-places (s .args .t1) (sized (s .args .t1) (s .good .0)) (took e .whole .test) in
     (p .0, p .1)
 
@@ -82,7 +92,7 @@ write-path-requires : tie.Need-write-path-requires
 write-path-requires c κs =
     let y = c .before .before .before .before .before .before .before .before .before .before .before in
     let e = from (y .before) in
-    let s = e .before .before .before .before .before in
+    let s = start (e .before .before) in
     let z = sized (s .args .t1) (s .good .0) in
     let p = sound-places (s .args .t1) z (took e .whole .test) in
     let at = c .before .before .before .before .before .before .before .before .position .ensures .1 in
@@ -95,7 +105,7 @@ returns-3 : tie.Need-returns-3
 returns-3 c =
     let y = c .before .before .before .before .before .before .before .before .before .before .before .before .before .before in
     let e = from (y .before) in
-    let A = e .before .before .before .before .before .args in
+    let A = start (e .before .before) .args in
     let asked = A .filter .«required_flags» in
     let S = y .before .strongest in
     let W = c .before .before .write-path in
