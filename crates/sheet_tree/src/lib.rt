@@ -165,7 +165,7 @@ pub fn build(places: &[i64; 2816], n: usize, clips: &[i64; 1536], m: usize) -> T
 {
     let t = insert_all(places, n, clips, m);
     let mut room = [0.0; 2048];
-    let after = tree_commit::commit_sound(t, &mut room);
-    let tree = after.tree;
+    let done = commit_work::commit_sound(t, &mut room);
+    let tree = done.tree;
     tree
 }

@@ -8,7 +8,7 @@ use Rattle.tree_state.specs.declared.Tree.{Tree}
 use Rattle.tree_state.specs.declared.Verdict.{Verdict}
 use Rattle.tree_state.specs.declared.Verdict.the-variants as is
 use Rattle.tree_state.specs.Tree.{numberOf}
-use Rattle.tree_steps.specs.Commit.{Work, commitVerdict, commitTree, visitsOf, reworkAll, begun, rectsInFront}
+use Rattle.tree_steps.specs.Commit.{Work, commitVerdict, commitTree, rectsInFront}
 use Rattle.tree_commit.specs.declared.Committed.{Committed}
 use Rattle.tree_commit.specs.declared.Committed.the-variants as of
 use Rattle.tree_commit.specs.declared.AfterCommit.{AfterCommit}
@@ -38,7 +38,3 @@ commitRoom t room = roomAfter (commitVerdict t (length room)) (commitTree t .dam
 unfoldable pub committedNumber : Committed → ℕ
 committedNumber (of.Damage n) = 0
 committedNumber (of.Refused r) = numberOf r
-
--- the tree and the damage once every place is reworked
-abbrev pub worked : Tree → Work
-worked t = reworkAll (begun t) (visitsOf t)

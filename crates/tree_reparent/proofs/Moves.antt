@@ -1,5 +1,5 @@
 -- The call from its verdict: what an accepted one has, and what it leaves.
-use mathlib.Core.Path.{_≡_, sym, subst, _∙_}
+use mathlib.Core.Path.{_≡_, refl, sym, subst, _∙_}
 use mathlib.Core.Bool.{Bool, true, false, not}
 use Prim.Native.Nat.{ℕ, _≤_, _<_}
 use native.Mathlib.Omega.{arith}
@@ -21,11 +21,21 @@ use Rattle.tree_steps.specs.Setters.{ofNode, markBoth}
 use Rattle.tree_steps.specs.Structure.{parentLive, atOrBelow, reparentVerdict, moveLinks, reparentTree}
 use Rattle.tree_nodes.proofs.Lengths.{Told, sized}
 use Rattle.tree_nodes.proofs.Nodes.{Held, Node, checked-accepted, node-accepted, live-node}
-use Rattle.tree_reparent.specs.Below.{Outside}
+use Rattle.tree_reparent.specs.Below.{placeIn, isBelow, moveTo, Outside}
+
+-- ---- the definitions over the links are the tree's
+
+pub is-below : (t : Tree) (i : ℕ) (parent : OptionNodeId) → isBelow (t .links) i parent ≡ atOrBelow t i parent
+is-below t i node.None = refl
+is-below t i (node.Some h) = refl
+
+pub move-to : (t : Tree) (i : ℕ) (parent : OptionNodeId) → moveTo (t .links) i parent ≡ moveLinks t i parent
+move-to t i node.None = refl
+move-to t i (node.Some h) = refl
 
 -- ---- the new parent
 
-pub outside : (t : Tree) (i : ℕ) (parent : OptionNodeId) → Held t → parentLive t parent ≡ true → atOrBelow t i parent ≡ false → Outside t i parent
+pub outside : (t : Tree) (i : ℕ) (parent : OptionNodeId) → Held t → parentLive t parent ≡ true → atOrBelow t i parent ≡ false → Outside (t .links) i parent
 outside t i node.None H p b = tt
 outside t i (node.Some h) H p b = (
   live-node t H h p .place-fits,
@@ -35,9 +45,9 @@ outside t i (node.Some h) H p b = (
   ],
 )
 
-pub outside-some : (t : Tree) (i to : ℕ) (parent : OptionNodeId) (h : NodeId) → parent ≡ node.Some h → Outside t i parent → to ≡ placeOf t (h .0)
-    → (to < t .links .count) × (i ≤ to → endOf (t .links) i ≤ to)
-outside-some t i to parent h e o f = rw f (subst (Outside t i) e o)
+pub outside-some : (l : Links) (i to : ℕ) (parent : OptionNodeId) (h : NodeId) → parent ≡ node.Some h → Outside l i parent → to ≡ placeIn l (h .0)
+    → (to < l .count) × (i ≤ to → endOf l i ≤ to)
+outside-some l i to parent h e o f = rw f (subst (Outside l i) e o)
 
 -- ---- the first tests
 

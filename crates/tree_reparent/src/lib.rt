@@ -5,9 +5,8 @@ ghost use mathlib.Core.Bool.{true};
 ghost use Prim.Native.Nat.{_<_, _≤_};
 ghost use lib.ListN.{take};
 ghost use Rattle.forest.specs.Table.{depthsFrom};
-ghost use Rattle.tree_state.specs.Tree.{placeOf};
 ghost use Rattle.tree_steps.specs.Structure as step;
-ghost use Rattle.tree_reparent.specs.Below.{Outside};
+ghost use Rattle.tree_reparent.specs.Below as spec;
 use box_types::OptionNodeId;
 use boxes::NodeId;
 use links::Links;
@@ -17,24 +16,23 @@ use tree_state::Tree;
 use tree_state::Verdict;
 
 // Whether the parent is the node at the place `at` or below it: two comparisons of places.
-fn is_below(t: Tree, at: usize, parent: OptionNodeId) -> bool
-    requires { ⌜ (at < t .links .count) × (t .links .count ≤ 256) ⌝ }
-    ensures { λ r. ⌜ r ≡ step.atOrBelow t at parent ⌝ }
+fn is_below(l: Links, at: usize, parent: OptionNodeId) -> bool
+    requires { ⌜ (at < l .count) × (l .count ≤ 256) ⌝ }
+    ensures { λ r. ⌜ r ≡ spec.isBelow l at parent ⌝ }
 {
     let OptionNodeId::Some(h) = parent else {
         return false;
     };
-    let to = links::position(&t.links.order, t.links.count, h.0);
-    let e = links::segment_end(&t.links.depth, t.links.count, at);
+    let to = links::position(&l.order, l.count, h.0);
+    let e = links::segment_end(&l.depth, l.count, at);
     (at <= to) & (to < e)
 }
 
 // Last under the new parent, or last of the roots.
-fn move_links(t: Tree, at: usize, parent: OptionNodeId) -> Links
-    requires { ⌜ (at < t .links .count) × (t .links .count ≤ 256) × (depthsFrom 0 (take (t .links .count) (t .links .depth)) ≡ true) × Outside t at parent ⌝ }
-    ensures { λ r. ⌜ r ≡ step.moveLinks t at parent ⌝ }
+fn move_links(l: Links, at: usize, parent: OptionNodeId) -> Links
+    requires { ⌜ (at < l .count) × (l .count ≤ 256) × (depthsFrom 0 (take (l .count) (l .depth)) ≡ true) × spec.Outside l at parent ⌝ }
+    ensures { λ r. ⌜ r ≡ spec.moveTo l at parent ⌝ }
 {
-    let l = t.links;
     match parent {
         OptionNodeId::None => link_moves::move_root(l, at),
         OptionNodeId::Some(h) => {
@@ -52,14 +50,15 @@ pub fn reparent(mut t: Tree, id: NodeId, parent: OptionNodeId) -> After
     let Verdict::Accepted = v else {
         return After { answer: v, tree: t };
     };
-    let at = links::position(&t.links.order, t.links.count, id.0);
-    let w = tree_state::check(v, !is_below(t, at, parent), Refusal::BelowItself);
+    let l = t.links;
+    let at = links::position(&l.order, l.count, id.0);
+    let w = tree_state::check(v, !is_below(l, at, parent), Refusal::BelowItself);
     let Verdict::Accepted = w else {
         return After { answer: w, tree: t };
     };
     let x = id.0 as usize;
     let m = t.marks;
-    t.links = move_links(t, at, parent);
+    t.links = move_links(l, at, parent);
     t.marks = tree_changes::mark_both(m, x);
     After { answer: w, tree: t }
 }

@@ -1,7 +1,7 @@
 -- `sheet_tree::build` meets its contract: what the inserts leave is sound, and the commit is the sheet's last call. Assumes nothing.
 use mathlib.Core.Path.{_≡_, ap, _∙_}
 use borrow.Author.Needs.{needs}
-use Rattle.tree_commit.specs.declared.AfterCommit.{AfterCommit}
+use Rattle.commit_work.specs.declared.Done.{Done}
 use Rattle.tree_state.specs.declared.Tree.{Tree}
 use Rattle.tree_state.specs.Sound.{soundTree}
 use Rattle.tree_steps.specs.Commit.{commitTree}
@@ -28,7 +28,7 @@ returns c =
     let i = k .before .before in
     let s = i .before in
     let A = s .args in
-    ap (λ (a : AfterCommit). a .tree) (k .commit-sound .ensures .0)
+    ap (λ (d : Done). d .tree) (k .commit-sound .ensures .0)
     ∙ ap (λ (t : Tree). commitTree t .tree) (i .insert-all .ensures)
     ∙ committed (A .places .now) (A .n) (A .clips .now) (A .m) (s .pre)
 

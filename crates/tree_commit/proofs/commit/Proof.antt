@@ -35,11 +35,11 @@ same-length c = search needs
 
 returns : tie.Need-returns
 returns c =
-    let D = c .before .before in
+    let D = c .before .before .before in
     let T = D .before .before in
     let C = T .before .before in
     let A = C .before .before .before .args in
-    call-done (A .t) (A .room .now) _ _ (sym (verdict C) ∙ T .enum-told .given .1) (D .commit-sound .ensures)
+    call-done (A .t) (A .room .now) _ (D .commit-sound .result) (sym (verdict C) ∙ T .enum-told .given .1) (D .commit-sound .ensures .0) (D .commit-sound .ensures .1)
 
 returns-2 : tie.Need-returns-2
 returns-2 c =

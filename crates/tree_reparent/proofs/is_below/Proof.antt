@@ -1,4 +1,3 @@
-use Rattle.tree_nodes.proofs.Lengths.{depth-long}
 use borrow.Author.Needs.{needs}
 use Rattle.tree_reparent.proofs.is_below.Statement.{statement}
 use Rattle.tree_reparent.proofs.is_below.Tie as tie
@@ -16,7 +15,7 @@ position-requires : tie.Need-position-requires
 position-requires c κs = search needs
 
 segment-end-requires : tie.Need-segment-end-requires
-segment-end-requires c κs = let Z = c .before .before .before .before .before .before .before .before in (Z .pre .0, Z .pre .1, depth-long (Z .args .t1) (Z .good .0))
+segment-end-requires c κs = search needs
 
 returns-2 : tie.Need-returns-2
 returns-2 c = rw (c .segment-end .ensures .2, c .before .before .before .position .ensures .1, c .before .before .before .before .before .before .before .parent .given .1)

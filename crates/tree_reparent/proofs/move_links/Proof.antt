@@ -17,10 +17,10 @@ position-requires c κs = search needs
 
 move-last-requires : tie.Need-move-last-requires
 move-last-requires c κs =
-    let Z = c .before .before .before .before .before .before .before in
+    let Z = c .before .before .before .before .before .before in
     let A = Z .args in
     let h = c .before .before .before .before .parent .given in
-    let o = outside-some (A .t) (A .at) (c .position .result) (A .parent) (h .0 .0) (h .1) (Z .pre .3) (c .position .ensures .1) in
+    let o = outside-some (A .t1) (A .at) (c .position .result) (A .parent) (h .0 .0) (h .1) (Z .pre .3) (c .position .ensures .1) in
     (Z .pre .0, o .0, Z .pre .1, o .1, Z .pre .2)
 
 returns : tie.Need-returns

@@ -1,4 +1,4 @@
--- `tree_commit::commit_sound` meets its contract: from call to call, the tree that the tables make up. Assumes nothing.
+-- `commit_work::commit_sound` meets its contract: from call to call, the tree that the tables make up. Assumes nothing.
 use mathlib.Core.Path.{_≡_, refl, sym, ap, _∙_}
 use mathlib.Core.List.{List}
 use Prim.Native.Nat.{ℕ}
@@ -14,14 +14,14 @@ use Rattle.tree_laws.proofs.Ground.{linked}
 use Rattle.tree_need.proofs.Walks.{sound-places, sound-used}
 use Rattle.tree_steps.specs.Commit.{begun, reworkAll, rectsInFront}
 use Rattle.keep_commit.proofs.Sizes.{length-rects}
-use Rattle.tree_commit.proofs.Lengths.{whole}
-use Rattle.tree_commit.proofs.Call.{sound-of, places-few, places-are, places-ready, front-same, finish-ready, clean, joined}
-use Rattle.tree_commit.proofs.commit_sound.Statement.{statement}
-use Rattle.tree_commit.proofs.commit_sound.Tie as tie
+use Rattle.commit_work.proofs.Lengths.{whole}
+use Rattle.commit_work.proofs.Work.{sound-of, places-few, places-are, places-ready, front-same, finish-ready, clean, joined}
+use Rattle.commit_work.proofs.commit_sound.Statement.{statement}
+use Rattle.commit_work.proofs.commit_sound.Tie as tie
 
 -- from each call back to the one before
 abbrev begins : tie.After-needs → tie.Start
-begins c = c .before .before .before .before .before .before .before .before .before .before .before .before .before .before .before .before .before .before .before .before .before .before .before .before .before .before .before .before .before .before .before .before .before .before .before .before
+begins c = c .before .before .before .before .before .before .before .before .before .before .before .before .before .before .before .before .before .before .before .before .before .before .before .before .before .before .before .before .before .before .before
 
 abbrev from-pending : tie.After-put-pending → tie.Else1
 from-pending c = c .before .before .before .before
@@ -47,7 +47,7 @@ pending-count S = sym (length-rects (S .args .t .pending .rects) (S .args .t .pe
 
 needs-requires : tie.Need-needs-requires
 needs-requires c κs =
-    let S = c .before .before .before .before .before .before .before .before .before .before .before .before .before .before .before .before .before .before .before .before .before .before .before .before .before .before .before .before .before .before .before .before .before .before .before in
+    let S = c .before .before .before .before .before .before .before .before .before .before .before .before .before .before .before .before .before .before .before .before .before .before .before .before .before .before .before .before .before .before in
     let t = S .args .t in
     let z = sized t (whole-here S) in
     let p = sound-places t z (S .pre .0) in

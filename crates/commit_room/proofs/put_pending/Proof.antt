@@ -4,9 +4,9 @@ use mathlib.Core.List.{_++_}
 use native.Mathlib.Omega.{arith}
 use lib.ListN.{length, take, drop}
 use borrow.Author.Needs.{needs}
-use Rattle.tree_commit.proofs.Pending.{copy-next, copy-length, copied}
-use Rattle.tree_commit.proofs.put_pending.Statement.{statement}
-use Rattle.tree_commit.proofs.put_pending.Tie as tie
+use Rattle.commit_room.proofs.Pending.{copy-next, copy-length, copied}
+use Rattle.commit_room.proofs.put_pending.Statement.{statement}
+use Rattle.commit_room.proofs.put_pending.Tie as tie
 
 abbrev Inv-loop : tie.InvT-loop
 Inv-loop rects n room₀ m i₀ room i =

@@ -1,0 +1,167 @@
+// The work of a commit (tree.rs), on a sound tree and with room enough.
+ghost use mathlib.Core.Path.{_≡_};
+ghost use mathlib.Core.Bool.{true};
+ghost use Prim.Native.Nat.{_≤_};
+ghost use lib.ListN.{length};
+ghost use Rattle.tree_state.specs.Sound.{soundTree};
+ghost use Rattle.tree_steps.specs.Commit.{commitTree, rectsInFront};
+ghost use Rattle.commit_work.specs.Done as spec;
+use tree_state::Keys;
+use tree_state::Marks;
+use tree_state::Pending;
+use tree_state::Tree;
+use tree_state::Worlds;
+use understory_index::FlatVec;
+use understory_index::Index;
+
+// How many rectangles of damage stand in front of the room, four numbers each, and the tree.
+pub struct Done {
+    pub count: usize,
+    pub tree: Tree,
+}
+
+// Inner: the commit of a sound tree, with room enough. A tree that needs none stays as it is. Its tables are copied once and lent from there: the
+// pending rectangles, the rework of each place that the marks call for, the index's commit; no mark, nothing that counts as changed and no
+// pending rectangle is left.
+pub fn commit_sound(t: Tree, room: &mut [f64]) -> Done
+    requires { ⌜ (soundTree t ≡ true) × (2048 ≤ length (now room)) ⌝ }
+    ensures answer { λ r. ⌜ r ≡ spec.done (commitTree t) ⌝ }
+    ensures room { λ _. ⌜ now (room .exit) ≡ rectsInFront (commitTree t .damage) (now (room .entry)) ⌝ }
+{
+    let slots = t.slots;
+    let links = t.links;
+    let locals = t.locals;
+    let mut marked = t.marks.marked;
+    let mut changed = t.marks.transform;
+    let mut changed_clip = t.marks.clip;
+    let pending = t.pending;
+    let mut transform = t.worlds.transform;
+    let mut clipped = t.worlds.clipped;
+    let mut clip = t.worlds.clip;
+    let mut bounds = t.worlds.bounds;
+    let mut hit_bounds = t.worlds.hit_bounds;
+    let mut committed = t.keys.committed;
+    let mut key_slot = t.keys.slot;
+    let mut key_generation = t.keys.generation;
+    let mut generation = t.index.generation;
+    let mut mark = t.index.mark;
+    let mut payload = t.index.payload;
+    let mut aabb = t.index.aabb;
+    let mut kept = t.index.kept;
+    let mut prev = t.index.prev;
+    let mut free = t.index.free;
+    let mut present = t.index.backend.present;
+    let mut boxes = t.index.backend.boxes;
+    let mut dirty = t.index.dirty;
+    let need = tree_need::needs(
+        &links.order,
+        links.count,
+        &marked,
+        &mark,
+        t.index.used,
+        pending.count,
+    );
+    if !need {
+        return Done { count: 0, tree: t };
+    }
+    commit_room::put_pending(&pending.rects, pending.count, room);
+    let mut visits = [0u32; 256];
+    let n = tree_visits::places(
+        &links.order,
+        &links.depth,
+        links.count,
+        &slots.generation,
+        &marked,
+        &changed,
+        &changed_clip,
+        &mut visits,
+    );
+    let r = tree_fold::rework_all(
+        &visits,
+        n,
+        &links.order,
+        &links.depth,
+        &slots.generation,
+        &locals.bounds,
+        &locals.slop,
+        &locals.transform,
+        &locals.kind,
+        &locals.clip,
+        &mut transform,
+        &mut clipped,
+        &mut clip,
+        &mut bounds,
+        &mut hit_bounds,
+        &mut committed,
+        &mut key_slot,
+        &mut key_generation,
+        &mut generation,
+        &mut mark,
+        &mut payload,
+        &mut aabb,
+        &mut kept,
+        &mut prev,
+        &free,
+        &mut dirty,
+        t.index.used,
+        t.index.frees,
+        t.index.queued,
+        room,
+        pending.count, // behind what is pending
+    );
+    let frees = tree_rework::commit_index(
+        &mut mark,
+        &mut kept,
+        &mut free,
+        &mut present,
+        &mut boxes,
+        &aabb,
+        &prev,
+        &dirty,
+        r.queued,
+        r.frees,
+    );
+    tree_rework::clear_marks(&mut marked, &mut changed, &mut changed_clip);
+    let rects = pending.rects;
+    let tree = Tree {
+        slots,
+        links,
+        locals,
+        worlds: Worlds {
+            transform,
+            clipped,
+            clip,
+            bounds,
+            hit_bounds,
+        },
+        marks: Marks {
+            marked,
+            transform: changed,
+            clip: changed_clip,
+        },
+        keys: Keys {
+            committed,
+            slot: key_slot,
+            generation: key_generation,
+        },
+        pending: Pending { rects, count: 0 },
+        index: Index {
+            generation,
+            mark,
+            payload,
+            aabb,
+            kept,
+            prev,
+            used: r.used,
+            free,
+            frees,
+            dirty,
+            queued: 0,
+            backend: FlatVec { present, boxes },
+        },
+    };
+    Done {
+        count: r.count,
+        tree,
+    }
+}
