@@ -53,12 +53,13 @@ pub fn commit_sound(t: Tree, room: &mut [f64]) -> Done
     let mut present = t.index.backend.present;
     let mut boxes = t.index.backend.boxes;
     let mut dirty = t.index.dirty;
+    let used = t.index.used;
     let need = tree_need::needs(
         &links.order,
         links.count,
         &marked,
         &mark,
-        t.index.used,
+        used,
         pending.count,
     );
     if !need {
@@ -103,7 +104,7 @@ pub fn commit_sound(t: Tree, room: &mut [f64]) -> Done
         &mut prev,
         &free,
         &mut dirty,
-        t.index.used,
+        used,
         t.index.frees,
         t.index.queued,
         room,
