@@ -30,7 +30,7 @@ use Rattle.sheet_laws.proofs.Tree.{tap-accepted, tap-found}
 use Rattle.sheet_laws.proofs.Tables.{rows-many, rows-at}
 use Rattle.sheet_text.specs.Text.{Stored}
 use Rattle.sheet_text.proofs.Digits.{short}
-use Rattle.sheet_answers.specs.Text.{found, tapLine, tapText, Ready, AllReady, sheetOf, FromBytes, writtenIf, roomIf, roomy}
+use Rattle.sheet_answers.specs.Text.{found, tapLine, tapText, Ready, AllReady, sheetOf, FromBytes, writtenIf, writtenNumber, roomIf, roomy}
 use Rattle.sheet_answers.specs.declared.Written.{Written}
 use Rattle.sheet_answers.specs.declared.Written.the-variants as written
 
@@ -197,3 +197,8 @@ module _ (s room : List ℕ) where
 pub count-low : (s : List ℕ) (b : Bool) (w : Written) (k : ℕ) → w ≡ writtenIf b (length (output s)) → w ≡ written.Bytes k → k ≤ 16384
 count-low s true w k e f = let g : k ≡ length (output s) = cc in omega (arith, output-short s)
 count-low s false w k e f = let z : _≡_ {A = ℕ} 0 1 = cc in absurd (omega arith)
+
+-- room that is too short is 8
+pub short-8 : (room : List ℕ) (n : ℕ) → roomy room ≡ false → writtenNumber (writtenIf (roomy room) n) ≡ 8
+unfolding writtenNumber
+short-8 room n e = rw e

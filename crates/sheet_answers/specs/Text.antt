@@ -57,6 +57,11 @@ abbrev pub writtenIf : Bool → ℕ → Written
 writtenIf true n = written.Bytes n
 writtenIf false n = written.ShortRoom
 
+-- document 01's number of the answer: 0 where the text is written
+unfoldable pub writtenNumber : Written → ℕ
+writtenNumber (written.Bytes n) = 0
+writtenNumber written.ShortRoom = 8
+
 -- the text in front of the room, or the room as it was
 abbrev pub roomIf : Bool → List ℕ → List ℕ → List ℕ
 roomIf true text room = text ++ drop (length text) room
