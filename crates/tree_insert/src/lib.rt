@@ -175,8 +175,8 @@ fn without_key(mut k: Keys, x: usize) -> Keys
 
 // ---- the call
 
-// Inner: the stores of a call that nothing refuses.
-pub fn insert_accepted(t: Tree, parent: OptionNodeId, local: LocalNode) -> AfterInsert
+// The stores of a call that nothing refuses.
+fn insert_accepted(t: Tree, parent: OptionNodeId, local: LocalNode) -> AfterInsert
     requires { ⌜ step.insertVerdict t parent local ≡ is.Accepted ⌝ }
     ensures { λ r. ⌜ r ≡ spec.insertDone t parent local ⌝ }
 {
