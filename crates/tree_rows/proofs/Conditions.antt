@@ -1,4 +1,7 @@
--- Each condition of document 01's "Sound tree" broken alone, beside trees that are sound though no list of calls makes them.
+-- Conditions of document 01's "Sound tree", broken alone but for five rows, beside trees that are sound though no list of calls makes them. Of those
+-- five, a key of another generation, an entry that carries another id, and one that is updated leave an entry without an owner too; a committed node
+-- whose slot is empty breaks "Sound index" too (a used empty slot that is not free); a child twice has a depth of 0 too, and slot 1 is used, dead and
+-- not free.
 use mathlib.Core.Path.{_≡_, refl}
 use mathlib.Core.Bool.{Bool, true, false, not}
 use Prim.Native.Nat.{ℕ}

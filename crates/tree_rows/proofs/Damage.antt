@@ -18,7 +18,7 @@ use Rattle.index_query.specs.Query as query
 use Rattle.understory_index.specs.Index.{freshIndex, workOf, rectSlots, pointSlots}
 use Rattle.worlds.specs.World.{image, meetOwn, meet, clipped, placed, worldBox, hitBox, reached}
 use Rattle.box_types.specs.declared.OptionNodeId.the-variants as node
-use Rattle.box_types.specs.Local.{hasAll, finiteLocal, stored}
+use Rattle.box_types.specs.Local.{hasAll, finiteLocal, noInset, stored}
 use Rattle.node_tables.specs.Tables.{rectAt, putRect, insetsAt, putInsets, affineAt, putAffine, clipAt, kindOf, edgesFrom, putClip, clipRectAt, isThere, putClipRect}
 use Rattle.forest.specs.Table.{lessDeep, run, segEnd, indexOf, postOf, depthsFrom}
 use Rattle.links.specs.Links.{afterCut, splice, addRoot, addLast, cutTree, graft, graftLast, moveLast, moveRoot}
@@ -31,6 +31,7 @@ use Rattle.tree_steps.specs.Requests.{keepOf, inStoredClips, fine, stronger, st
 use Rattle.plan.specs.Calls as call
 use Rattle.plan.specs.Calls.{Call}
 use Rattle.plan.specs.Demand as demand
+use Rattle.plan.proofs.Cases.{rec}
 use Rattle.plan.proofs.Rows.{num, point, id, local, ten, turn, shifted, grown, root, child, settle, a, b, c, places, halfClip, hidden}
 use Rattle.tree_run.specs.Run.{verdict, accepted, step, outcome, answer}
 use Rattle.tree_steps.specs.Readings.{parentOf, childrenOf, nextOf, prevOf}
@@ -88,6 +89,7 @@ pub more-damages : (damage (root ∷ []) ≡ box 0 0 10 10 ∷ [])  -- a new nod
     × (damage (root ∷ call.insert node.None (local 20 is.None (pos 0)) ∷ settle ∷ call.remove b ∷ call.remove a ∷ []) ≡ box 0 0 20 20 ∷ box 0 0 10 10 ∷ [])  -- removals in their order
     × (damage (root ∷ call.insert (node.Some a) (local 20 is.None (pos 0)) ∷ settle ∷ call.remove a ∷ []) ≡ box 0 0 20 20 ∷ box 0 0 10 10 ∷ [])  -- children first
     × (damage (root ∷ settle ∷ child a ∷ call.remove b ∷ call.set-local-bounds a (box 0 0 20 20) ∷ []) ≡ box 0 0 10 10 ∷ box 0 0 20 20 ∷ [])  -- a node that no commit has seen gives none
+    × (damage (call.insert node.None (rec (box 0 0 10 10) noInset identity is.None (pos 0) 0) ∷ []) ≡ box 0 0 10 10 ∷ [])  -- a withheld node gives damage too
     × (numberOf no.Unsound ≡ 1)  -- document 01, 1
-unfolding num point id local ten root child settle turn shifted grown after a b c places halfClip hidden demand.run step verdict accepted outcome answer minimum maximum magnitude same hasArea ordered intersection contains plusInsets rectEq insetsEq noInsets finiteRect finiteInsets mapped product inverse transformRectBbox affineEq finiteAffine clipRect clipRadii fitted shaped constructed quadrant excess insideRounded inside clipRectEq clipEq finiteClipRect finiteClip asConstructed aabbEq containsPoint overlaps boxAt putBox idAt putId times every onceBelow soundOf nextGeneration queueWith lengthWith markOf previousAt slotFor usedFor generationFor actOf boxBefore movedFrom movedTo workStep work query.slots freshIndex workOf rectSlots pointSlots image meetOwn meet clipped placed worldBox hitBox reached hasAll finiteLocal stored rectAt putRect insetsAt putInsets affineAt putAffine clipAt kindOf edgesFrom putClip clipRectAt isThere putClipRect run segEnd indexOf postOf depthsFrom afterCut splice addRoot addLast cutTree graft graftLast moveLast moveRoot numberOf checkedNext checked freshTree live localAt some anyOf needsCommit countOf countBelow everyOf slotsRight nodeRight entryRight countsRight soundTree setTransform setClip setBounds setSlop setLevel setFlags insertTree removeAll removeTree reparentTree lessDeep ancestors putIn startsBelow placesFrom walkAll handedDown rework reworkAll rectsOf commitTree keepOf inStoredClips fine stronger strongest hitNode pathTo rectNodes pointNodes round units odd size span climb neg add sub mul div eq le lt isNan demand.outcomes parentOf childrenOf nextOf prevOf atDepth damage box
-more-damages = (refl, refl, refl, refl, refl, refl, refl, refl, refl, refl)
+unfolding num point id local ten root child settle turn shifted grown after a b c places halfClip hidden demand.run step verdict accepted outcome answer minimum maximum magnitude same hasArea ordered intersection contains plusInsets rectEq insetsEq noInsets finiteRect finiteInsets mapped product inverse transformRectBbox affineEq finiteAffine clipRect clipRadii fitted shaped constructed quadrant excess insideRounded inside clipRectEq clipEq finiteClipRect finiteClip asConstructed aabbEq containsPoint overlaps boxAt putBox idAt putId times every onceBelow soundOf nextGeneration queueWith lengthWith markOf previousAt slotFor usedFor generationFor actOf boxBefore movedFrom movedTo workStep work query.slots freshIndex workOf rectSlots pointSlots image meetOwn meet clipped placed worldBox hitBox reached hasAll finiteLocal stored rectAt putRect insetsAt putInsets affineAt putAffine clipAt kindOf edgesFrom putClip clipRectAt isThere putClipRect run segEnd indexOf postOf depthsFrom afterCut splice addRoot addLast cutTree graft graftLast moveLast moveRoot numberOf checkedNext checked freshTree live localAt some anyOf needsCommit countOf countBelow everyOf slotsRight nodeRight entryRight countsRight soundTree setTransform setClip setBounds setSlop setLevel setFlags insertTree removeAll removeTree reparentTree lessDeep ancestors putIn startsBelow placesFrom walkAll handedDown rework reworkAll rectsOf commitTree keepOf inStoredClips fine stronger strongest hitNode pathTo rectNodes pointNodes round units odd size span climb neg add sub mul div eq le lt isNan demand.outcomes parentOf childrenOf nextOf prevOf atDepth damage box rec
+more-damages = (refl, refl, refl, refl, refl, refl, refl, refl, refl, refl, refl)

@@ -1,0 +1,78 @@
+-- Worked rows of lent room, each by computation: results stand in front, what is behind them stays, and a refused call leaves all of it.
+use Prim.Native.Nat.{ℕ}
+use mathlib.Core.Path.{_≡_, refl}
+use mathlib.Core.List.{List, [], _∷_}
+use lib.ListN.{replicate}
+use lib.Ieee.{Float, round, units, odd, size, span, climb, eq, le, lt, isNan, neg}
+use Rattle.numbers.specs.Number.{minimum, maximum, magnitude, same}
+use Rattle.geometry.specs.Rectangle.{rect, rectEq, ordered, finiteRect, finiteInsets}
+use Rattle.transforms.specs.Transform.{finiteAffine}
+use Rattle.clips.specs.Clips.{asConstructed, constructed, shaped, clipRect, clipRadii, finiteClip, finiteClipRect}
+use Rattle.boxes.specs.Boxes.{aabb}
+use Rattle.cells.specs.Cells.{idAt}
+use Rattle.counting.specs.Times.{times, every}
+use Rattle.counting.specs.Lists.{onceBelow}
+use Rattle.forest.specs.Table.{run, segEnd, indexOf, depthsFrom, atDepth}
+use Rattle.links.specs.Links.{splice, addRoot, addLast}
+use Rattle.index_sound.specs.Sound.{soundOf}
+use Rattle.index_commit.specs.Commit as damage
+use Rattle.index_query.specs.Query as query
+use Rattle.understory_index.specs.Index.{freshIndex, queryRoom}
+use Rattle.box_types.specs.Local.{finiteLocal, stored}
+use Rattle.box_types.specs.declared.OptionNodeId.the-variants as node
+use Rattle.node_tables.specs.Tables.{rectAt, putRect, insetsAt, putInsets, affineAt, putAffine, clipAt, kindOf, edgesFrom, putClip}
+use Rattle.plan.proofs.Rows.{num, id, local, ten, a, b}
+use Rattle.tree_state.specs.declared.Tree.{Tree}
+use Rattle.tree_state.specs.declared.Refusal.the-variants as no
+use Rattle.tree_state.specs.declared.Verdict.the-variants as is
+use Rattle.tree_state.specs.Tree.{checkedNext, checked, freshTree, live, localAt}
+use Rattle.tree_state.specs.Sound.{countOf, countBelow, everyOf, slotsRight, nodeRight, entryRight, countsRight, soundTree}
+use Rattle.tree_steps.specs.Structure.{insertTree}
+use Rattle.tree_steps.specs.Commit.{rectsInFront}
+use Rattle.tree_steps.specs.Readings.{childrenOf}
+use Rattle.tree_steps.specs.Requests.{idsInFront}
+use Rattle.tree_answers.specs.Answers.{roomIf, childrenRoom}
+
+-- five numbers, and five floats
+unfoldable pub room : List ℕ
+room = 5 ∷ 6 ∷ 7 ∷ 8 ∷ 9 ∷ []
+
+unfoldable pub floats : List Float
+floats = num 5 ∷ num 6 ∷ num 7 ∷ num 8 ∷ num 9 ∷ []
+
+-- ids, two numbers each; rectangles, four
+pub ids : (idsInFront [] room ≡ room)
+    × (idsInFront (a ∷ []) room ≡ 0 ∷ 1 ∷ 7 ∷ 8 ∷ 9 ∷ [])
+    × (idsInFront (b ∷ id 2 3 ∷ []) room ≡ 1 ∷ 1 ∷ 2 ∷ 3 ∷ 9 ∷ [])
+unfolding idsInFront room a b id
+ids = (refl, refl, refl)
+
+pub rects : (rectsInFront [] floats ≡ floats)
+    × (rectsInFront (rect (num 0) (num 1) (num 2) (num 3) ∷ []) floats ≡ num 0 ∷ num 1 ∷ num 2 ∷ num 3 ∷ num 9 ∷ [])
+unfolding rectsInFront floats
+rects = (refl, refl)
+
+-- the index's: boxes of a commit, entries of a query
+pub boxes : (damage.inFront [] floats ≡ floats)
+    × (damage.inFront (aabb (num 0) (num 1) (num 2) (num 3) ∷ []) floats ≡ num 0 ∷ num 1 ∷ num 2 ∷ num 3 ∷ num 9 ∷ [])
+unfolding damage.inFront damage.flat floats
+boxes = (refl, refl)
+
+pub entries : (query.inFront [] room ≡ room)
+    × (query.inFront (query.entries (1 ∷ 2 ∷ []) (10 ∷ 11 ∷ 12 ∷ 13 ∷ []) (1 ∷ [])) room ≡ 1 ∷ 2 ∷ 12 ∷ 13 ∷ 9 ∷ [])
+    × (queryRoom freshIndex (0 ∷ []) room ≡ room)  -- refused: room for fewer than 512 entries
+    × (queryRoom freshIndex (0 ∷ []) (replicate 2049 7) ≡ 0 ∷ 0 ∷ 0 ∷ 0 ∷ replicate 2045 7)
+unfolding query.entries idAt room queryRoom freshIndex soundOf onceBelow every times
+entries = (refl, refl, refl, refl)
+
+-- children: a node with one child
+unfoldable pub family : Tree
+family = insertTree (insertTree freshTree node.None ten) (node.Some a) ten
+
+pub children : (roomIf is.Accepted (b ∷ []) room ≡ 1 ∷ 1 ∷ 7 ∷ 8 ∷ 9 ∷ [])
+    × (roomIf (is.Refused no.DeadNode) (b ∷ []) room ≡ room)
+    × (childrenRoom family a room ≡ room)  -- refused: room for fewer than 256 ids
+    × (childrenRoom family (id 0 2) (replicate 513 7) ≡ replicate 513 7)  -- refused: another generation
+    × (childrenRoom family a (replicate 513 7) ≡ 1 ∷ 1 ∷ replicate 511 7)
+unfolding roomIf idsInFront room family num id local ten a b insertTree stored freshTree freshIndex checkedNext checked live localAt childrenOf atDepth run segEnd indexOf depthsFrom splice addRoot addLast constructed shaped putRect putInsets putAffine kindOf edgesFrom putClip soundTree slotsRight onceBelow every times soundOf everyOf nodeRight finiteLocal finiteRect finiteInsets finiteAffine finiteClip finiteClipRect clipRect clipRadii asConstructed rectEq ordered rectAt insetsAt affineAt clipAt idAt entryRight countsRight countBelow countOf minimum maximum magnitude same round units odd size span climb neg eq le lt isNan
+children = (refl, refl, refl, refl, refl)
