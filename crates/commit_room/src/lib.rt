@@ -4,7 +4,7 @@ ghost use Prim.Native.Nat.{_≤_};
 ghost use lib.ListN.{length};
 ghost use Rattle.tree_steps.specs.Commit.{rectsOf, rectsInFront};
 
-// Inner: earlier removals stand first: the n pending rectangles in front of the room.
+// Inner: the n pending rectangles in front of the room; earlier removals stand first.
 pub fn put_pending(rects: &[f64; 1024], n: usize, room: &mut [f64])
     requires { ⌜ (n ≤ 256) × (2048 ≤ length (now room)) × (length (now rects) ≡ 1024) ⌝ }
     ensures { λ _. ⌜ now (room .exit) ≡ rectsInFront (rectsOf (now (rects .entry)) n) (now (room .entry)) ⌝ }

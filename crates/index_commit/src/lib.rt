@@ -125,8 +125,8 @@ pub fn commit_slot<'a>(
     }
 }
 
-// Inner: puts a box, if there is one, behind the n that stand in the room. How many stand there then is returned.
-pub fn push(room: &mut [f64], n: usize, p: Previous) -> usize
+// Puts a box, if there is one, behind the n that stand in the room. How many stand there then is returned.
+fn push(room: &mut [f64], n: usize, p: Previous) -> usize
     requires { ⌜ (n < 512) × (4 * n + 4 ≤ length (now room)) ⌝ }
     ensures { λ r. ⌜ (now (room .exit) ≡ spec.roomWith (now (room .entry)) n p) × (r ≡ spec.countWith n p) ⌝ }
 {

@@ -23,8 +23,8 @@ pub fn visited<'a>(
     (present[x] != 0) & ((mark[x] != 0) & b.overlaps(rect))
 }
 
-// Inner: puts an entry, if it is visited, behind the n that stand in the room: its slot, its generation and its payload.
-pub fn push_entry(room: &mut [u32], n: usize, take: bool, slot: u32, generation: u32, p: NodeId)
+// Puts an entry, if it is visited, behind the n that stand in the room: its slot, its generation and its payload.
+fn push_entry(room: &mut [u32], n: usize, take: bool, slot: u32, generation: u32, p: NodeId)
     requires { ⌜ (n < 512) × (4 * n + 4 ≤ length (now room)) ⌝ }
     ensures { λ _. ⌜ now (room .exit) ≡ cond take (store 4 (now (room .entry)) n (spec.words slot generation p)) (now (room .entry)) ⌝ }
 {

@@ -25,8 +25,8 @@ fn put_digit(room: &mut [u8], at: usize, wanted: bool, n: usize) -> usize
     at + 1
 }
 
-// Inner: a number below 10,000.
-pub fn put_number(room: &mut [u8], at: usize, n: usize) -> usize
+// A number below 10,000.
+fn put_number(room: &mut [u8], at: usize, n: usize) -> usize
     requires { ⌜ (n < 10000) × (at + 4 ≤ length (now room)) ⌝ }
     ensures { λ r. ⌜ spec.Stored (now (room .entry)) (now (room .exit)) at r (answer.decimal n) ⌝ }
 {
@@ -36,8 +36,8 @@ pub fn put_number(room: &mut [u8], at: usize, n: usize) -> usize
     put_digit(room, tens, true, n)
 }
 
-// Inner: a number below 10,000, and a byte behind it.
-pub fn put_marked(room: &mut [u8], at: usize, n: usize, mark: u8) -> usize
+// A number below 10,000, and a byte behind it.
+fn put_marked(room: &mut [u8], at: usize, n: usize, mark: u8) -> usize
     requires { ⌜ (n < 10000) × (at + 5 ≤ length (now room)) ⌝ }
     ensures { λ r. ⌜ spec.Stored (now (room .entry)) (now (room .exit)) at r (spec.marked n mark) ⌝ }
 {

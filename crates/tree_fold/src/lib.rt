@@ -20,8 +20,8 @@ pub struct Reworked {
     pub count: usize,
 }
 
-// Inner: the rework of the place `at`, whose node's damage goes behind the `count` rectangles that stand in the room.
-pub fn rework_node<'a>(
+// The rework of the place `at`, whose node's damage goes behind the `count` rectangles that stand in the room.
+fn rework_node<'a>(
     order: &'a [u32; 256],
     depth: &'a [u32; 256],
     node_generation: &'a [u32; 256],
