@@ -1,7 +1,8 @@
-// The room of a commit.
+// The room of a commit, and its end: no mark.
 ghost use mathlib.Core.Path.{_≡_};
+ghost use mathlib.Core.Bool.{false};
 ghost use Prim.Native.Nat.{_≤_};
-ghost use lib.ListN.{length};
+ghost use lib.ListN.{length, replicate};
 ghost use Rattle.tree_steps.specs.Commit.{rectsOf, rectsInFront};
 
 // Inner: the n pending rectangles in front of the room; earlier removals stand first.
@@ -15,4 +16,13 @@ pub fn put_pending(rects: &[f64; 1024], n: usize, room: &mut [f64])
         room[i] = rects[i];
         i += 1;
     }
+}
+
+// Inner: no mark, and nothing that counts as changed.
+pub fn clear_marks(marked: &mut [bool; 256], transform: &mut [bool; 256], clip: &mut [bool; 256])
+    ensures { λ _. ⌜ (now (marked .exit) ≡ replicate 256 false) × (now (transform .exit) ≡ replicate 256 false) × (now (clip .exit) ≡ replicate 256 false) ⌝ }
+{
+    *marked = [false; 256];
+    *transform = [false; 256];
+    *clip = [false; 256];
 }

@@ -11,6 +11,7 @@ use Rattle.links.specs.Links.{inFront}
 use Rattle.index_sound.specs.Sound.{SoundOf}
 use Rattle.index_commit.specs.Commit.{work, start}
 use Rattle.understory_index.specs.declared.Index.{Index}
+use Rattle.understory_index.specs.Index.{workOf, commitOf}
 use Rattle.tree_state.specs.declared.Tree.{Tree}
 use Rattle.tree_state.specs.declared.Marks.{Marks}
 use Rattle.tree_state.specs.Tree.{needsCommit}
@@ -21,9 +22,9 @@ use Rattle.tree_laws.proofs.Whole.{Whole, WholeIndex, sized}
 use Rattle.tree_visits.specs.Visits.{lent}
 use Rattle.tree_visits.proofs.Whole.{front-take, visits-lent}
 use Rattle.tree_fits.specs.Fits.{Ready}
-use Rattle.tree_rework.specs.Rework.{index, Left}
-use Rattle.tree_rework.proofs.Tables.{index-committed}
-use Rattle.tree_rework.proofs.Rooms.{front-length}
+use Rattle.rework_boxes.proofs.Rooms.{front-length}
+use Rattle.rework_entries.specs.Enter.{index}
+use Rattle.commit_queue.specs.Queue.{Left}
 use Rattle.keep_commit.proofs.Keep.{ready, index-ready}
 use Rattle.commit_work.specs.declared.Done.{Done}
 use Rattle.commit_work.specs.Done.{done, worked}
@@ -72,6 +73,14 @@ rest t m ix =
 no-marks : (a b c : List Bool) → (a ≡ replicate 256 false) × (b ≡ replicate 256 false) × (c ≡ replicate 256 false)
     → _≡_ {A = Marks} (record { marked = a; transform = b; clip = c }) noMarks
 no-marks a b c e = rw (e .0, e .1, e .2)
+
+-- what the index's commit leaves of the lent tables, on an index's own
+index-committed : (ix : Index) (mark kept free present : List ℕ) (boxes : List Float) (frees : ℕ)
+    → Left (work (ix .aabb) (ix .prev) (start (ix .mark) (ix .kept) (ix .free) (ix .frees) (ix .backend .present) (ix .backend .boxes)) (take (ix .queued) (ix .dirty))) mark kept free present boxes frees
+    → index (record { present = present; boxes = boxes }) (ix .generation) mark (ix .payload) (ix .aabb) kept (ix .prev) (ix .used) free frees (ix .dirty) 0
+    ≡ commitOf ix (workOf ix)
+unfolding workOf
+index-committed ix mark kept free present boxes frees L = rw (L .mark-is, L .kept-is, L .free-is, L .present-is, L .boxes-is, L .frees-is)
 
 finish-done : (t : Tree) (a b c : List Bool) (mark kept free present : List ℕ) (boxes : List Float) (frees : ℕ)
     → Left (work (t .index .aabb) (t .index .prev) (start (t .index .mark) (t .index .kept) (t .index .free) (t .index .frees) (t .index .backend .present) (t .index .backend .boxes)) (take (t .index .queued) (t .index .dirty))) mark kept free present boxes frees

@@ -110,7 +110,7 @@ pub fn commit_sound(t: Tree, room: &mut [f64]) -> Done
         room,
         pending.count, // behind what is pending
     );
-    let frees = tree_rework::commit_index(
+    let frees = commit_queue::commit_index(
         &mut mark,
         &mut kept,
         &mut free,
@@ -122,7 +122,7 @@ pub fn commit_sound(t: Tree, room: &mut [f64]) -> Done
         r.queued,
         r.frees,
     );
-    tree_rework::clear_marks(&mut marked, &mut changed, &mut changed_clip);
+    commit_room::clear_marks(&mut marked, &mut changed, &mut changed_clip);
     let rects = pending.rects;
     let tree = Tree {
         slots,

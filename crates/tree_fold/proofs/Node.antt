@@ -18,9 +18,13 @@ use Rattle.tree_state.specs.declared.Tree.{Tree}
 use Rattle.tree_state.specs.Tree.{idAt, keyAt, clipOf, committedAt, storedBounds, storedHitBounds}
 use Rattle.tree_steps.specs.Commit.{newPlace, newBounds, newHitBounds, damageOf, reworked, rework, rectsInFront}
 use Rattle.tree_fits.specs.Fits.{Fits, from, slotAt}
-use Rattle.tree_rework.specs.Rework.{lent, worlds, above, handed, place, laid, enterIndex, enterKeys, Enters}
-use Rattle.tree_rework.proofs.Tables.{handed-down, index-same, keys-same}
-use Rattle.tree_rework.proofs.Rooms.{front-grows}
+use Rattle.rework_worlds.specs.Places.{above, handed, place}
+use Rattle.rework_worlds.proofs.Handed.{handed-down}
+use Rattle.rework_boxes.specs.Damage.{laid}
+use Rattle.rework_boxes.proofs.Rooms.{front-grows}
+use Rattle.rework_entries.specs.Enter.{enterIndex, enterKeys, Enters}
+use Rattle.rework_entries.proofs.Same.{index-same, keys-same}
+use Rattle.tree_fold.specs.Lent.{lent, worlds}
 
 -- what the first step works out
 abbrev pub placeOf : Tree → ℕ → Placed

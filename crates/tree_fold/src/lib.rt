@@ -8,7 +8,7 @@ ghost use Rattle.geometry.specs.declared.rect.Rect.{Rect};
 ghost use Rattle.tree_state.specs.declared.Tree.{Tree};
 ghost use Rattle.tree_steps.specs.Commit.{reworkAll, rework, rectsInFront};
 ghost use Rattle.tree_fits.specs.Fits.{Fits, Ready, from};
-ghost use Rattle.tree_rework.specs.Rework as spec;
+ghost use Rattle.tree_fold.specs.Lent as spec;
 use boxes::NodeId;
 use geometry::rect::Rect;
 
@@ -61,7 +61,7 @@ fn rework_node<'a>(
 {
     let slot = order[at];
     let x = slot as usize;
-    let w = tree_rework::place_node(
+    let w = rework_worlds::place_node(
         order,
         depth,
         local_transform,
@@ -73,11 +73,11 @@ fn rework_node<'a>(
         at,
         x,
     );
-    let d = tree_rework::box_node(local_bounds, slop, bounds, hit_bounds, room, count, x, w);
+    let d = rework_boxes::box_node(local_bounds, slop, bounds, hit_bounds, room, count, x, w);
     let id = NodeId(slot, node_generation[x]);
     let hit = d.hit;
     let b = box_types::rect_to_aabb(hit);
-    let e = tree_rework::enter_node(
+    let e = rework_entries::enter_node(
         committed,
         key_slot,
         key_generation,

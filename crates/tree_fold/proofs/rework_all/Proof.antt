@@ -5,7 +5,7 @@ use lib.ListN.{getD}
 use borrow.Author.Needs.{needs}
 use Rattle.tree_state.specs.declared.Tree.{Tree}
 use Rattle.tree_fits.specs.Fits.{Fits, from}
-use Rattle.tree_rework.specs.Rework.{tree}
+use Rattle.tree_fold.specs.Lent.{tree}
 use Rattle.tree_fold.proofs.Node.{place-low}
 use Rattle.tree_fold.proofs.Loop.{Inv, start, done, turn-fits, next}
 use Rattle.tree_fold.proofs.rework_all.Statement.{statement}

@@ -4,8 +4,8 @@ use lib.ListN.{length}
 use borrow.Author.Needs.{needs}
 use Rattle.tree_state.specs.declared.Tree.{Tree}
 use Rattle.tree_fits.specs.Fits.{Fits, from}
-use Rattle.tree_rework.specs.Rework.{tree}
-use Rattle.tree_rework.proofs.Rooms.{laid-length}
+use Rattle.tree_fold.specs.Lent.{tree}
+use Rattle.rework_boxes.proofs.Rooms.{laid-length}
 use Rattle.tree_fold.proofs.Node.{place-low, slot-low, above-low, damage-few, enters, tables-after, count-after, room-after}
 use Rattle.tree_fold.proofs.rework_node.Statement.{statement}
 use Rattle.tree_fold.proofs.rework_node.Tie as tie
