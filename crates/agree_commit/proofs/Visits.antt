@@ -17,7 +17,7 @@ use Rattle.tree_state.specs.declared.Tree.{Tree}
 use Rattle.tree_state.specs.Tree.{placeOf, isLive, markedAt, anyOf}
 use Rattle.tree_laws.proofs.Ground.{Linked, live-has, segment, ancestors-above, slot-at-place, subtree-slots}
 use Rattle.tree_steps.specs.Commit.{ancestors, changedAt, sooner, putIn, startsBelow, startsOf, walked, walkAll, visitsOf}
-use Rattle.tree_visits.proofs.Members.{starts-member, starts-count}
+use Rattle.visit_starts.proofs.Members.{starts-member, starts-count}
 use Rattle.tree_visits.proofs.Walked.{walked-covered, walked-whole, walked-alone}
 use Rattle.tree_visits.proofs.Laws.{first-live, rest-live, all-live}
 use Rattle.tree_visits.proofs.Parents.{slotsAt, slots-row}

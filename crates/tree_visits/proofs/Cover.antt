@@ -16,7 +16,7 @@ use Rattle.links.specs.Links.{endOf}
 use Rattle.tree_state.specs.declared.Tree.{Tree}
 use Rattle.tree_state.specs.Tree.{placeOf, isLive, markedAt, transformChangedAt, clipChangedAt, anyOf}
 use Rattle.tree_steps.specs.Commit.{ancestors, changedAt, walked, walkAll, startsOf, visitsOf}
-use Rattle.tree_visits.proofs.Members.{starts-member, live-has}
+use Rattle.visit_starts.proofs.Members.{starts-member, live-has}
 use Rattle.tree_visits.proofs.Owner.{Top, topmost, any-here, any-above}
 use Rattle.tree_visits.proofs.Walked.{live-at, live-segment, ancestors-live, walked-whole, walked-alone, places-in}
 

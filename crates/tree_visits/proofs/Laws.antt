@@ -14,7 +14,7 @@ use Rattle.forest.proofs.Sound.{Sound}
 use Rattle.tree_state.specs.declared.Tree.{Tree}
 use Rattle.tree_state.specs.Tree.{isLive, markedAt, anyOf}
 use Rattle.tree_steps.specs.Commit.{changedAt, walked, walkAll, startsOf, visitsOf}
-use Rattle.tree_visits.proofs.Members.{starts-count, starts-member}
+use Rattle.visit_starts.proofs.Members.{starts-count, starts-member}
 use Rattle.tree_visits.proofs.Owner.{or-left, or-right, mine-self}
 use Rattle.tree_visits.proofs.Walked.{ownerAt, walked-once, walked-low}
 

@@ -6,8 +6,9 @@ use Prim.Native.Nat.{ℕ, zero, suc}
 use Rattle.tree_state.specs.declared.Tree.{Tree}
 use Rattle.tree_state.specs.Tree.{isLive, markedAt}
 use Rattle.tree_steps.specs.Commit.{startsBelow, startsOf, walked, walkAll, ancestors}
-use Rattle.tree_visits.specs.Visits.{lent, startsIn, walkIn}
-use Rattle.tree_visits.proofs.Members.{put-by}
+use Rattle.visit_starts.specs.Starts.{lent, startsIn}
+use Rattle.tree_visits.specs.Visits.{walkIn}
+use Rattle.visit_starts.proofs.Members.{put-by}
 
 module _ (t : Tree) where
   abbrev four : Tree

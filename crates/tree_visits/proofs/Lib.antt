@@ -1,7 +1,4 @@
 pub mod Lent
-pub mod Members
-pub mod Steps
-pub mod Pushes
 pub mod Owner
 pub mod Walked
 pub mod Laws

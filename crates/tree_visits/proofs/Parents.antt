@@ -17,7 +17,7 @@ use Rattle.links.specs.Links.{endOf}
 use Rattle.tree_state.specs.declared.Tree.{Tree}
 use Rattle.tree_state.specs.Tree.{placeOf, anyOf}
 use Rattle.tree_steps.specs.Commit.{ancestors, changedAt, placesFrom, walked, walkAll, startsOf, visitsOf}
-use Rattle.tree_visits.proofs.Members.{starts-count}
+use Rattle.visit_starts.proofs.Members.{starts-count}
 use Rattle.tree_visits.proofs.Walked.{live-at, live-segment, ancestors-live, walked-covered, walked-whole, walked-alone}
 use Rattle.tree_visits.proofs.Laws.{first-live, rest-live, all-live}
 

@@ -10,8 +10,9 @@ use Rattle.forest.proofs.Sound.{Sound}
 use Rattle.links.specs.Links.{inFront}
 use Rattle.tree_state.specs.declared.Tree.{Tree}
 use Rattle.tree_steps.specs.Commit.{startsOf, walkAll, visitsOf}
-use Rattle.tree_visits.specs.Visits.{lent, startsIn, walkIn, Walkable}
-use Rattle.tree_visits.proofs.Members.{starts-count}
+use Rattle.visit_starts.specs.Starts.{lent, startsIn}
+use Rattle.tree_visits.specs.Visits.{walkIn, Walkable}
+use Rattle.visit_starts.proofs.Members.{starts-count}
 use Rattle.tree_visits.proofs.Lent.{starts-tree, walk-tree}
 
 -- what stands in front
