@@ -1,5 +1,5 @@
 -- The call from its verdict: what an accepted one has, and what it answers.
-use mathlib.Core.Path.{_≡_, refl}
+use mathlib.Core.Path.{_≡_, refl, subst}
 use mathlib.Core.Bool.{true}
 use Prim.Native.Nat.{ℕ, _≤_, _<_}
 use borrow.Author.Tests.{ltb-true}
@@ -22,16 +22,22 @@ use Rattle.tree_state.specs.declared.Refusal.{Refusal}
 use Rattle.tree_state.specs.declared.Refusal.the-variants as no
 use Rattle.tree_state.specs.declared.Verdict.{Verdict}
 use Rattle.tree_state.specs.declared.Verdict.the-variants as is
-use Rattle.tree_state.specs.Tree.{checked, numberOf, numberIn}
+use Rattle.tree_state.specs.Tree.{checked, numberOf, numberIn, placeOf}
 use Rattle.tree_steps.specs.Setters.{held, markBoth}
 use Rattle.tree_steps.specs.Structure.{slotOf, parentLive, insertVerdict, takeSlot, linkNew, storeLocal, clearBoxes, withoutKey, insertTree}
 use Rattle.tree_nodes.proofs.Lengths.{Told, sized}
 use Rattle.tree_nodes.proofs.Nodes.{Held, checked-accepted, held-accepted, live-node}
 use Rattle.tree_changes.proofs.Handed.{whole}
 use Rattle.keep_calls.proofs.Links.{new-low}
+use Rattle.insert_slots.specs.Slots.{idOf}
 use Rattle.tree_insert.specs.declared.AfterInsert.{AfterInsert}
 use Rattle.tree_insert.specs.declared.Inserted.the-variants as inserts
-use Rattle.tree_insert.specs.Insert.{insertedNumber, inserted, insertCall, insertDone, idOf, Placed}
+use Rattle.tree_insert.specs.Insert.{insertedNumber, inserted, insertCall, insertDone, Placed}
+
+-- ---- its place
+
+pub placed-some : (t : Tree) (parent : OptionNodeId) (h : NodeId) → parent ≡ node.Some h → Placed t parent → placeOf t (h .0) < t .links .count
+placed-some t parent h e p = subst (Placed t) e p
 
 -- ---- an accepted call
 

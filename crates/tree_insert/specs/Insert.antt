@@ -1,18 +1,15 @@
 -- What insert answers, and the tree after it.
-use Prim.Native.Nat.{ℕ, _+_, _<_}
-use mathlib.Core.Bool.{cond}
-use lib.Dec.{eqb}
+use Prim.Native.Nat.{ℕ, _<_}
 use Rattle.boxes.specs.declared.NodeId.{NodeId}
 use Rattle.box_types.specs.declared.LocalNode.{LocalNode}
 use Rattle.box_types.specs.declared.OptionNodeId.{OptionNodeId}
 use Rattle.box_types.specs.declared.OptionNodeId.the-variants as node
-use Rattle.tree_state.specs.declared.Slots.{Slots}
 use Rattle.tree_state.specs.declared.Tree.{Tree}
 use Rattle.tree_state.specs.declared.Verdict.{Verdict}
 use Rattle.tree_state.specs.declared.Verdict.the-variants as is
 use Rattle.tree_state.specs.Tree.{placeOf, numberOf}
 use Rattle.tree_steps.specs.Setters.{treeIf}
-use Rattle.tree_steps.specs.Structure.{slotOf, generationOf, newId, insertVerdict, insertTree}
+use Rattle.tree_steps.specs.Structure.{newId, insertVerdict, insertTree}
 use Rattle.tree_insert.specs.declared.Inserted.{Inserted}
 use Rattle.tree_insert.specs.declared.Inserted.the-variants as inserts
 use Rattle.tree_insert.specs.declared.AfterInsert.{AfterInsert}
@@ -37,14 +34,6 @@ insertCall t parent v =
 -- what a call that nothing refuses answers and leaves
 abbrev pub insertDone : Tree → OptionNodeId → LocalNode → AfterInsert
 insertDone t parent v = record { answer = inserts.Node (newId t); tree = insertTree t parent v }
-
--- ---- what the code's steps speak of
-
-abbrev pub idOf : Slots → NodeId
-idOf s = record { 0 = slotOf s; 1 = generationOf s }
-
-abbrev pub usedAfter : ℕ → ℕ → ℕ
-usedAfter frees used = cond (eqb frees 0) (used + 1) used
 
 -- the parent, if there is one, has a place
 abbrev pub Placed : Tree → OptionNodeId → Type 0

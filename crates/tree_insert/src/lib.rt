@@ -2,26 +2,24 @@
 // node marked, changed in both. A refused call returns the tree as it was given.
 ghost use mathlib.Core.Path.{_≡_};
 ghost use mathlib.Core.Bool.{true};
-ghost use Prim.Native.Nat.{_-_, _<_, _≤_};
+ghost use Prim.Native.Nat.{_<_};
 ghost use lib.ListN.{take};
-ghost use Rattle.box_types.specs.Local as local_spec;
 ghost use Rattle.forest.specs.Table.{depthsFrom};
 ghost use Rattle.tree_state.specs.declared.Verdict.the-variants as is;
-ghost use Rattle.tree_state.specs.Tree.{placeOf};
 ghost use Rattle.tree_steps.specs.Structure as step;
 ghost use Rattle.tree_insert.specs.Insert as spec;
 use box_types::LocalNode;
 use box_types::OptionNodeId;
 use boxes::NodeId;
-use geometry::rect::Rect;
+use insert_slots::next_id;
+use insert_slots::take_slot;
 use links::Links;
-use tree_state::Keys;
-use tree_state::Locals;
+use local_stores::clear_boxes;
+use local_stores::store_local;
+use local_stores::without_key;
 use tree_state::Refusal;
-use tree_state::Slots;
 use tree_state::Tree;
 use tree_state::Verdict;
-use tree_state::Worlds;
 
 // The new node's id, or why there is none; `spec.insertedNumber` has document 01's numbers.
 pub enum Inserted {
@@ -34,83 +32,7 @@ pub struct AfterInsert {
     pub tree: Tree,
 }
 
-// ---- the test
-
-fn is_finite(v: LocalNode) -> bool
-    ensures { λ r. ⌜ r ≡ local_spec.finiteLocal v ⌝ }
-{
-    let bounds = v.local_bounds;
-    let slop = v.hit_slop;
-    let tf = v.local_transform;
-    let clip = v.local_clip;
-    bounds.is_finite() & slop.is_finite() & (tf.is_finite() & clip.is_finite())
-}
-
-fn test(t: Tree, parent: OptionNodeId, v: LocalNode) -> Verdict
-    ensures { λ r. ⌜ r ≡ step.insertVerdict t parent v ⌝ }
-{
-    let held = tree_nodes::held(t);
-    let linked = tree_nodes::of_parent(t, held, parent);
-    let finite = tree_state::check(linked, is_finite(v), Refusal::NotFinite);
-    let flags = v.flags;
-    let known = tree_state::check(finite, flags.is_known(), Refusal::UnknownFlags);
-    tree_state::check(known, t.links.count < 256, Refusal::Full)
-}
-
-// ---- the slot
-
-// One higher, and 4,294,967,295 stays: `saturating_add`.
-fn next_generation(generation: u32) -> u32
-    ensures { λ r. ⌜ r ≡ step.saturated generation ⌝ }
-{
-    if generation < 4294967295 {
-        generation + 1
-    } else {
-        4294967295
-    }
-}
-
-// The last freed slot, its generation one higher; else the next unused slot, generation 1.
-fn next_id(s: Slots) -> NodeId
-    requires { ⌜ (s .used ≤ 256) × (s .frees ≤ 256) × (step.slotOf s < 256) ⌝ }
-    ensures { λ r. ⌜ r ≡ spec.idOf s ⌝ }
-{
-    let frees = s.frees;
-    if frees == 0 {
-        return NodeId(s.used as u32, 1);
-    }
-    let x = s.free[frees - 1];
-    NodeId(x, next_generation(s.generation[x as usize]))
-}
-
-// How many slots are used then, and how many stay in the free list.
-fn used_after(frees: usize, used: usize) -> usize
-    requires { ⌜ used ≤ 256 ⌝ }
-    ensures { λ r. ⌜ r ≡ spec.usedAfter frees used ⌝ }
-{
-    if frees == 0 { used + 1 } else { used }
-}
-
-fn frees_after(frees: usize) -> usize
-    ensures { λ r. ⌜ r ≡ frees - 1 ⌝ }
-{
-    if frees == 0 { 0 } else { frees - 1 }
-}
-
-fn take_slot(mut s: Slots, id: NodeId) -> Slots
-    requires { ⌜ (s .used ≤ 256) × (step.slotOf s < 256) × (id ≡ spec.idOf s) ⌝ }
-    ensures { λ r. ⌜ r ≡ step.takeSlot s ⌝ }
-{
-    let x = id.0 as usize;
-    let frees = s.frees;
-    let used = s.used;
-    s.generation[x] = id.1;
-    s.used = used_after(frees, used);
-    s.frees = frees_after(frees);
-    s
-}
-
-// ---- what is stored there
+// ---- its place
 
 // Last under its parent, or last of the roots.
 fn link_parent(t: Tree, parent: OptionNodeId, x: u32) -> Links
@@ -125,52 +47,6 @@ fn link_parent(t: Tree, parent: OptionNodeId, x: u32) -> Links
             links::add_last(l, at, x)
         }
     }
-}
-
-// The local record, its clip put through the constructor.
-fn store_local(mut l: Locals, x: usize, v: LocalNode) -> Locals
-    requires { ⌜ x < 256 ⌝ }
-    ensures { λ r. ⌜ r ≡ step.storeLocal l x (local_spec.stored v) ⌝ }
-{
-    let handed = v.local_clip;
-    let clip = handed.construct();
-    let bounds = v.local_bounds;
-    let slop = v.hit_slop;
-    let tf = v.local_transform;
-    let z = v.z_index;
-    let flags = v.flags;
-    node_tables::put_rect(&mut l.bounds, x, bounds);
-    node_tables::put_insets(&mut l.slop, x, slop);
-    node_tables::put_affine(&mut l.transform, x, tf);
-    node_tables::put_clip(&mut l.clip, x, clip);
-    l.kind[x] = node_tables::clip_kind(clip);
-    l.level[x] = z;
-    l.flags[x] = flags.0;
-    l
-}
-
-// No world boxes yet.
-fn clear_boxes(mut w: Worlds, x: usize) -> Worlds
-    requires { ⌜ x < 256 ⌝ }
-    ensures { λ r. ⌜ r ≡ step.clearBoxes w x ⌝ }
-{
-    let none = Rect {
-        x0: 0.0,
-        y0: 0.0,
-        x1: 0.0,
-        y1: 0.0,
-    };
-    node_tables::put_rect(&mut w.bounds, x, none);
-    node_tables::put_rect(&mut w.hit_bounds, x, none);
-    w
-}
-
-fn without_key(mut k: Keys, x: usize) -> Keys
-    requires { ⌜ x < 256 ⌝ }
-    ensures { λ r. ⌜ r ≡ step.withoutKey k x ⌝ }
-{
-    k.committed[x] = false;
-    k
 }
 
 // ---- the call
@@ -208,7 +84,7 @@ fn insert_accepted(t: Tree, parent: OptionNodeId, local: LocalNode) -> AfterInse
 pub fn insert(t: Tree, parent: OptionNodeId, local: LocalNode) -> AfterInsert
     ensures { λ r. ⌜ r ≡ spec.insertCall t parent local ⌝ }
 {
-    let v = test(t, parent, local);
+    let v = insert_tests::test(t, parent, local);
     match v {
         Verdict::Accepted => insert_accepted(t, parent, local),
         Verdict::Refused(r) => AfterInsert {

@@ -11,6 +11,7 @@ use Rattle.forest.specs.Table.{depthsFrom}
 use Rattle.index_sound.specs.Sound.{soundOf}
 use Rattle.counting.specs.Times.{every}
 use Rattle.boxes.specs.declared.NodeId.{NodeId}
+use Rattle.box_types.specs.declared.OptionNodeId.{OptionNodeId}
 use Rattle.box_types.specs.declared.OptionNodeId.the-variants as node
 use Rattle.tree_state.specs.declared.Tree.{Tree}
 use Rattle.tree_state.specs.declared.Refusal.{Refusal}
@@ -23,7 +24,7 @@ use Rattle.tree_sound.specs.Parts.{Sized}
 use Rattle.tree_sound.proofs.Exact.{decides, live-low}
 use Rattle.tree_steps.specs.Setters.{held, ofNode}
 use Rattle.tree_steps.specs.Structure.{parentLive}
-use Rattle.tree_nodes.specs.Live.{LowSlots}
+use Rattle.tree_nodes.specs.Live.{LowSlots, parentIn}
 
 -- ---- conditions one after the other
 
@@ -86,6 +87,12 @@ module _ (t : Tree) (s : Sized t) where
 -- what `is_live` requires
 pub live-needs : (t : Tree) → Sized t → Held t → (t .links .count ≤ 256) × (length (t .links .order) ≡ 256) × LowSlots (t .links .order) (t .links .count)
 live-needs t s H = (H .count-fits, s .order, H .low)
+
+-- the parent's test over the tables is the tree's
+pub parent-in : (t : Tree) (parent : OptionNodeId) → parentIn (t .links .order) (t .links .count) (t .slots .generation) parent ≡ parentLive t parent
+unfolding live
+parent-in t node.None = refl
+parent-in t (node.Some h) = refl
 
 -- ---- a live node of it
 

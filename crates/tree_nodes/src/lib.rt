@@ -5,11 +5,9 @@ ghost use Prim.Native.Nat.{_≤_};
 ghost use lib.ListN.{length};
 ghost use Rattle.tree_state.specs.declared.Refusal.the-variants as no;
 ghost use Rattle.tree_state.specs.declared.Verdict.the-variants as is;
-ghost use Rattle.tree_state.specs.Sound.{soundTree};
 ghost use Rattle.tree_state.specs.Tree.{checked};
 ghost use Rattle.tree_steps.specs.Setters as spec;
-ghost use Rattle.tree_steps.specs.Structure.{parentLive};
-ghost use Rattle.tree_nodes.specs.Live.{LowSlots, liveIn};
+ghost use Rattle.tree_nodes.specs.Live.{LowSlots, liveIn, parentIn};
 use box_types::OptionNodeId;
 use boxes::NodeId;
 use tree_state::Refusal;
@@ -82,9 +80,15 @@ pub fn of_node(t: Tree, i: NodeId) -> Verdict
 }
 
 // Inner: 3, after tests that have found the tree sound: the parent, if there is one, is live.
-pub fn of_parent(t: Tree, v: Verdict, parent: OptionNodeId) -> Verdict
-    requires { ⌜ (v ≡ is.Accepted → soundTree t ≡ true) ⌝ }
-    ensures { λ r. ⌜ r ≡ checked v (parentLive t parent) no.DeadParent ⌝ }
+pub fn of_parent<'a>(
+    order: &'a [u32; 256],
+    n: usize,
+    generation: &'a [u32; 256],
+    v: Verdict,
+    parent: OptionNodeId,
+) -> Verdict
+    requires { ⌜ (v ≡ is.Accepted → (n ≤ 256) × (length (now order) ≡ 256) × LowSlots (now order) n) ⌝ }
+    ensures { λ r. ⌜ r ≡ checked v (parentIn (now (order .entry)) n (now (generation .entry)) parent) no.DeadParent ⌝ }
 {
     let Verdict::Accepted = v else {
         return v;
@@ -92,6 +96,6 @@ pub fn of_parent(t: Tree, v: Verdict, parent: OptionNodeId) -> Verdict
     let OptionNodeId::Some(h) = parent else {
         return v;
     };
-    let live = is_live(&t.links.order, t.links.count, &t.slots.generation, h);
+    let live = is_live(order, n, generation, h);
     tree_state::check(v, live, Refusal::DeadParent)
 }

@@ -20,7 +20,8 @@ use Rattle.tree_state.specs.Tree.{placeOf, checked}
 use Rattle.tree_steps.specs.Setters.{ofNode, markBoth}
 use Rattle.tree_steps.specs.Structure.{parentLive, atOrBelow, reparentVerdict, moveLinks, reparentTree}
 use Rattle.tree_nodes.proofs.Lengths.{Told, sized}
-use Rattle.tree_nodes.proofs.Nodes.{Held, Node, checked-accepted, node-accepted, live-node}
+use Rattle.tree_nodes.specs.Live.{parentIn}
+use Rattle.tree_nodes.proofs.Nodes.{Held, Node, checked-accepted, node-accepted, live-node, parent-in}
 use Rattle.tree_reparent.specs.Below.{placeIn, isBelow, moveTo, Outside}
 
 -- ---- the definitions over the links are the tree's
@@ -54,8 +55,9 @@ outside-some l i to parent h e o f = rw f (subst (Outside l i) e o)
 abbrev pub first : Tree → NodeId → OptionNodeId → Verdict
 first t i parent = checked (ofNode t i) (parentLive t parent) no.DeadParent
 
-pub tested : (t : Tree) (i : NodeId) (parent : OptionNodeId) (n v : Verdict) → n ≡ ofNode t i → v ≡ checked n (parentLive t parent) no.DeadParent → v ≡ first t i parent
-tested t i parent n v e f = f ∙ rw e
+pub tested : (t : Tree) (i : NodeId) (parent : OptionNodeId) (n v : Verdict) → n ≡ ofNode t i
+    → v ≡ checked n (parentIn (t .links .order) (t .links .count) (t .slots .generation) parent) no.DeadParent → v ≡ first t i parent
+tested t i parent n v e f = f ∙ rw (e, parent-in t parent)
 
 pub live-both : (t : Tree) (i : NodeId) (parent : OptionNodeId) (v : Verdict) → Told t → v ≡ first t i parent → v ≡ is.Accepted
     → Node t i × (parentLive t parent ≡ true)

@@ -46,7 +46,13 @@ pub fn reparent(mut t: Tree, id: NodeId, parent: OptionNodeId) -> After
     ensures { λ r. ⌜ r ≡ step.reparentCall t id parent ⌝ }
 {
     let node = tree_nodes::of_node(t, id);
-    let v = tree_nodes::of_parent(t, node, parent);
+    let v = tree_nodes::of_parent(
+        &t.links.order,
+        t.links.count,
+        &t.slots.generation,
+        node,
+        parent,
+    );
     let Verdict::Accepted = v else {
         return After { answer: v, tree: t };
     };

@@ -2,7 +2,7 @@ use mathlib.Core.Path.{_≡_}
 use Prim.Native.Nat.{_<_}
 use native.Mathlib.Omega.{arith}
 use borrow.Author.Needs.{needs}
-use Rattle.tree_insert.proofs.Steps.{id-low}
+use Rattle.insert_slots.proofs.Steps.{id-low}
 use Rattle.tree_insert.proofs.Call.{Room, room-of, done}
 use Rattle.tree_insert.proofs.insert_accepted.Statement.{statement}
 use Rattle.tree_insert.proofs.insert_accepted.Tie as tie

@@ -1,5 +1,5 @@
 use native.Mathlib.Omega.{arith}
-use Rattle.tree_insert.proofs.Steps.{placed-some}
+use Rattle.tree_insert.proofs.Call.{placed-some}
 use borrow.Author.Needs.{needs}
 use Rattle.tree_insert.proofs.link_parent.Statement.{statement}
 use Rattle.tree_insert.proofs.link_parent.Tie as tie

@@ -1,10 +1,8 @@
 use mathlib.Core.Path.{refl, sym, _∙_}
 use borrow.Author.Needs.{needs}
-use Rattle.tree_state.specs.Tree.{live}
 use Rattle.tree_state.specs.declared.Refusal.the-variants as no
-use Rattle.tree_steps.specs.Structure.{parentLive}
-use Rattle.tree_nodes.proofs.Lengths.{sized}
-use Rattle.tree_nodes.proofs.Nodes.{sound-held, live-needs, checked-stopped, checked-both}
+use Rattle.tree_nodes.specs.Live.{parentIn}
+use Rattle.tree_nodes.proofs.Nodes.{checked-stopped, checked-both}
 use Rattle.tree_nodes.proofs.of_parent.Statement.{statement}
 use Rattle.tree_nodes.proofs.of_parent.Tie as tie
 
@@ -17,7 +15,7 @@ enum-told-2 c = search needs
 returns : tie.Need-returns
 returns c =
     let A = c .before .before .args in
-    checked-stopped (A .v) (A .v) (parentLive (A .t1) (A .parent)) no.DeadParent (c .enum-told2 .given .0 .0) refl (c .enum-told2 .given .1)
+    checked-stopped (A .v) (A .v) (parentIn (A .order .now) (A .n) (A .generation .now) (A .parent)) no.DeadParent (c .enum-told2 .given .0 .0) refl (c .enum-told2 .given .1)
 
 enum-known-parent : tie.Need-enum-known-parent
 enum-known-parent c = search needs
@@ -30,21 +28,18 @@ returns-2 : tie.Need-returns-2
 returns-2 c =
     let e = c .before .before in
     let A = e .before .before .args in
-    e .enum-told .given .1 ∙ sym (checked-both (A .v) (parentLive (A .t1) (A .parent)) no.DeadParent (e .enum-told .given .1) (rw (c .enum-told3 .given .1)))
+    e .enum-told .given .1 ∙ sym (checked-both (A .v) (parentIn (A .order .now) (A .n) (A .generation .now) (A .parent)) no.DeadParent (e .enum-told .given .1) (rw (c .enum-told3 .given .1)))
 
 is-live-requires : tie.Need-is-live-requires
 is-live-requires c κs =
-    let e = c .before .before .before .before .before .before in
-    let s = e .before .before in
-    let l = sized (s .args .t1) (s .good .0) in
-    live-needs (s .args .t1) l (sound-held (s .args .t1) l (s .pre (e .enum-told .given .1)))
+    let e = c .before .before .before in
+    e .before .before .pre (e .enum-told .given .1)
 
 check-requires : tie.Need-check-requires
 check-requires c κs = search needs
 
 returns-3 : tie.Need-returns-3
-unfolding live
-returns-3 c = rw (c .check .ensures, c .before .is-live .ensures, c .before .before .before .before .before .before .parent .given .1)
+returns-3 c = rw (c .check .ensures, c .before .is-live .ensures, c .before .before .before .parent .given .1)
 
 pub of-parent-spec : {M : Type 1} → statement M
 of-parent-spec =

@@ -8,7 +8,7 @@ use Rattle.tree_state.specs.declared.Refusal.the-variants as no
 use Rattle.tree_state.specs.Tree.{placeOf}
 use Rattle.tree_steps.specs.Structure.{parentLive, atOrBelow, reparentVerdict, reparentTree}
 use Rattle.tree_nodes.proofs.Lengths.{sized, order-long}
-use Rattle.tree_nodes.proofs.Nodes.{Node, node-accepted, checked-stopped}
+use Rattle.tree_nodes.proofs.Nodes.{Node, live-needs, node-accepted, checked-stopped}
 use Rattle.tree_changes.proofs.Answers.{refused, accepted, place-fits}
 use Rattle.tree_reparent.proofs.Moves.{is-below, move-to, outside, first, tested, live-both, tested-all, not-below, moved}
 use Rattle.tree_reparent.proofs.reparent.Statement.{statement}
@@ -19,30 +19,32 @@ of-node-requires c κs = search needs
 
 of-parent-requires : tie.Need-of-parent-requires
 of-parent-requires c κs =
-    let Z = c .before in
-    λ e. node-accepted (Z .args .t) (sized (Z .args .t) (Z .good .0)) (Z .args .id) (sym (c .of-node .ensures) ∙ e) .whole .test
+    let n = c .before .before .before in
+    let Z = n .before in
+    let l = sized (Z .args .t1) (Z .good .0) in
+    λ e. live-needs (Z .args .t1) l (node-accepted (Z .args .t1) l (Z .args .id) (sym (n .of-node .ensures) ∙ e) .whole)
 
 -- ---- the first tests, and what they give
 
 abbrev start : tie.After-of-parent → tie.Start
-start c = c .before .before
+start c = c .before .before .before .before .before
 
-first-is : (c : tie.After-of-parent) → let A = start c .args in c .of-parent .result ≡ first (A .t) (A .id) (A .parent)
+first-is : (c : tie.After-of-parent) → let A = start c .args in c .of-parent .result ≡ first (A .t1) (A .id) (A .parent)
 first-is c =
     let A = start c .args in
-    tested (A .t) (A .id) (A .parent) (c .before .of-node .result) (c .of-parent .result) (c .before .of-node .ensures) (c .of-parent .ensures)
+    tested (A .t1) (A .id) (A .parent) (c .before .before .before .before .of-node .result) (c .of-parent .result) (c .before .before .before .before .of-node .ensures) (c .of-parent .ensures)
 
 abbrev from-told : tie.After-enum-told → tie.After-of-parent
 from-told c = c .before .before
 
-both : (c : tie.After-enum-told) → let A = start (from-told c) .args in Node (A .t) (A .id) × (parentLive (A .t) (A .parent) ≡ true)
+both : (c : tie.After-enum-told) → let A = start (from-told c) .args in Node (A .t1) (A .id) × (parentLive (A .t1) (A .parent) ≡ true)
 both c =
     let k = from-told c in
     let A = start k .args in
-    live-both (A .t) (A .id) (A .parent) (k .of-parent .result) (start k .good .0) (first-is k) (c .enum-told .given .1)
+    live-both (A .t1) (A .id) (A .parent) (k .of-parent .result) (start k .good .0) (first-is k) (c .enum-told .given .1)
 
 abbrev done : tie.After-of-parent → Tree
-done c = let A = start c .args in reparentTree (A .t) (A .id .0) (A .parent)
+done c = let A = start c .args in reparentTree (A .t1) (A .id .0) (A .parent)
 
 enum-told : tie.Need-enum-told
 enum-told c = search needs
@@ -55,26 +57,26 @@ returns c =
     let k = c .before .before in
     let A = start k .args in
     let q = c .enum-told2 .given in
-    let v = first (A .t) (A .id) (A .parent) in
-    refused (reparentVerdict (A .t) (A .id) (A .parent)) (k .of-parent .result) (done k) (A .t)
-    (checked-stopped v (k .of-parent .result) (not (atOrBelow (A .t) (placeOf (A .t) (A .id .0)) (A .parent))) no.BelowItself (q .0 .0) (first-is k) (q .1))
+    let v = first (A .t1) (A .id) (A .parent) in
+    refused (reparentVerdict (A .t1) (A .id) (A .parent)) (k .of-parent .result) (done k) (A .t1)
+    (checked-stopped v (k .of-parent .result) (not (atOrBelow (A .t1) (placeOf (A .t1) (A .id .0)) (A .parent))) no.BelowItself (q .0 .0) (first-is k) (q .1))
     (q .0 .0) (q .1)
 
 position-requires : tie.Need-position-requires
 position-requires c κs =
     let e = c .before .before .before in
     let Z = start (from-told e) in
-    (both e .0 .whole .count-fits, order-long (Z .args .t) (Z .good .0))
+    (both e .0 .whole .count-fits, order-long (Z .args .t1) (Z .good .0))
 
 -- ---- the node's place
 
 abbrev from-place : tie.After-position → tie.After-enum-told
 from-place c = c .before .before .before .before
 
-at-fits : (c : tie.After-position) → c .position .result < start (from-told (from-place c)) .args .t .links .count
+at-fits : (c : tie.After-position) → c .position .result < start (from-told (from-place c)) .args .t1 .links .count
 at-fits c =
     let A = start (from-told (from-place c)) .args in
-    place-fits (A .t) (A .id) (c .position .result) (both (from-place c) .0) (c .position .ensures .1)
+    place-fits (A .t1) (A .id) (c .position .result) (both (from-place c) .0) (c .position .ensures .1)
 
 is-below-requires : tie.Need-is-below-requires
 is-below-requires c κs = (at-fits c, both (from-place c) .0 .whole .count-fits)
@@ -87,18 +89,18 @@ check-requires c κs = search needs
 abbrev from-check : tie.After-check → tie.After-position
 from-check c = c .before .before
 
-below-is : (c : tie.After-check) → let A = start (from-told (from-place (from-check c))) .args in c .before .is-below .result ≡ atOrBelow (A .t) (from-check c .position .result) (A .parent)
+below-is : (c : tie.After-check) → let A = start (from-told (from-place (from-check c))) .args in c .before .is-below .result ≡ atOrBelow (A .t1) (from-check c .position .result) (A .parent)
 below-is c =
     let p = from-check c in
     let A = start (from-told (from-place p)) .args in
-    c .before .is-below .ensures ∙ is-below (A .t) (p .position .result) (A .parent)
+    c .before .is-below .ensures ∙ is-below (A .t1) (p .position .result) (A .parent)
 
-verdict-is : (c : tie.After-check) → let A = start (from-told (from-place (from-check c))) .args in c .check .result ≡ reparentVerdict (A .t) (A .id) (A .parent)
+verdict-is : (c : tie.After-check) → let A = start (from-told (from-place (from-check c))) .args in c .check .result ≡ reparentVerdict (A .t1) (A .id) (A .parent)
 verdict-is c =
     let p = from-check c in
     let k = from-told (from-place p) in
     let A = start k .args in
-    tested-all (A .t) (A .id) (A .parent) (k .of-parent .result) (c .check .result) (p .position .result) (c .before .is-below .result) (first-is k) (p .position .ensures .1) (below-is c) (c .check .ensures)
+    tested-all (A .t1) (A .id) (A .parent) (k .of-parent .result) (c .check .result) (p .position .result) (c .before .is-below .result) (first-is k) (p .position .ensures .1) (below-is c) (c .check .ensures)
 
 enum-told-3 : tie.Need-enum-told-3
 enum-told-3 c = search needs
@@ -111,7 +113,7 @@ returns-2 c =
     let h = c .before .before in
     let k = from-told (from-place (from-check h)) in
     let A = start k .args in
-    refused (reparentVerdict (A .t) (A .id) (A .parent)) (h .check .result) (done k) (A .t) (verdict-is h) (c .enum-told4 .given .0 .0) (c .enum-told4 .given .1)
+    refused (reparentVerdict (A .t1) (A .id) (A .parent)) (h .check .result) (done k) (A .t1) (verdict-is h) (c .enum-told4 .given .0 .0) (c .enum-told4 .given .1)
 
 cast-x : tie.Need-cast-x
 cast-x c = search needs
@@ -128,8 +130,8 @@ move-links-requires c κs =
       at-fits p,
       W .count-fits,
       W .depths,
-      outside (A .t) (p .position .result) (A .parent) W (both d .1)
-          (not-below (A .t) (A .parent) (k .of-parent .result) (h .check .result) (p .position .result) (h .before .is-below .result) (below-is h) (h .check .ensures) (e .enum-told3 .given .1)),
+      outside (A .t1) (p .position .result) (A .parent) W (both d .1)
+          (not-below (A .t1) (A .parent) (k .of-parent .result) (h .check .result) (p .position .result) (h .before .is-below .result) (below-is h) (h .check .ensures) (e .enum-told3 .given .1)),
     )
 
 mark-both-requires : tie.Need-mark-both-requires
@@ -143,8 +145,8 @@ returns-3 c =
     let p = from-check h in
     let k = from-told (from-place p) in
     let A = start k .args in
-    accepted (reparentVerdict (A .t) (A .id) (A .parent)) (h .check .result) (done k) (A .t) (verdict-is h) _ (e .enum-told3 .given .1)
-    (moved (A .t) (A .id .0) (p .position .result) (A .parent) (l .move-links .result) (c .mark-both .result) (p .position .ensures .1) (l .move-links .ensures ∙ move-to (A .t) (p .position .result) (A .parent)) (c .mark-both .ensures))
+    accepted (reparentVerdict (A .t1) (A .id) (A .parent)) (h .check .result) (done k) (A .t1) (verdict-is h) _ (e .enum-told3 .given .1)
+    (moved (A .t1) (A .id .0) (p .position .result) (A .parent) (l .move-links .result) (c .mark-both .result) (p .position .ensures .1) (l .move-links .ensures ∙ move-to (A .t1) (p .position .result) (A .parent)) (c .mark-both .ensures))
 
 pub reparent-spec : {M : Type 1} → statement M
 reparent-spec =

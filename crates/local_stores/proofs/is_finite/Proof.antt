@@ -1,7 +1,7 @@
 use Rattle.box_types.specs.Local.{finiteLocal}
 use borrow.Author.Needs.{needs}
-use Rattle.tree_insert.proofs.is_finite.Statement.{statement}
-use Rattle.tree_insert.proofs.is_finite.Tie as tie
+use Rattle.local_stores.proofs.is_finite.Statement.{statement}
+use Rattle.local_stores.proofs.is_finite.Tie as tie
 
 is-finite-requires : tie.Need-is-finite-requires
 is-finite-requires c κs = search needs

@@ -1,8 +1,8 @@
 use native.Mathlib.Omega.{arith}
 use borrow.Author.Tests.{lt-ltb, le-ltb}
 use borrow.Author.Needs.{needs}
-use Rattle.tree_insert.proofs.next_generation.Statement.{statement}
-use Rattle.tree_insert.proofs.next_generation.Tie as tie
+use Rattle.insert_slots.proofs.next_generation.Statement.{statement}
+use Rattle.insert_slots.proofs.next_generation.Tie as tie
 
 add-result : tie.Need-add-result
 add-result c = search needs

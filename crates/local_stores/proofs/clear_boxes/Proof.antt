@@ -1,8 +1,8 @@
 use lib.Ieee.{ofBits, ofFields, odd}
-use Rattle.tree_insert.proofs.Steps.{cleared}
+use Rattle.local_stores.proofs.Stores.{cleared}
 use borrow.Author.Needs.{needs}
-use Rattle.tree_insert.proofs.clear_boxes.Statement.{statement}
-use Rattle.tree_insert.proofs.clear_boxes.Tie as tie
+use Rattle.local_stores.proofs.clear_boxes.Statement.{statement}
+use Rattle.local_stores.proofs.clear_boxes.Tie as tie
 
 put-rect-requires : tie.Need-put-rect-requires
 put-rect-requires c κs = search needs

@@ -1,8 +1,8 @@
 use native.Mathlib.Omega.{arith}
-use Rattle.tree_insert.proofs.Steps.{last-slot, unused-id, freed-id}
+use Rattle.insert_slots.proofs.Steps.{last-slot, unused-id, freed-id}
 use borrow.Author.Needs.{needs}
-use Rattle.tree_insert.proofs.next_id.Statement.{statement}
-use Rattle.tree_insert.proofs.next_id.Tie as tie
+use Rattle.insert_slots.proofs.next_id.Statement.{statement}
+use Rattle.insert_slots.proofs.next_id.Tie as tie
 
 cast-t7 : tie.Need-cast-t7
 cast-t7 c = search needs

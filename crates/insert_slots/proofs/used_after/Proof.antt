@@ -1,7 +1,7 @@
 use borrow.Author.Tests.{eq-eqb, ne-eqb}
 use borrow.Author.Needs.{needs}
-use Rattle.tree_insert.proofs.used_after.Statement.{statement}
-use Rattle.tree_insert.proofs.used_after.Tie as tie
+use Rattle.insert_slots.proofs.used_after.Statement.{statement}
+use Rattle.insert_slots.proofs.used_after.Tie as tie
 
 add-result : tie.Need-add-result
 add-result c = search needs

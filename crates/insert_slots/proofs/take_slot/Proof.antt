@@ -1,8 +1,8 @@
 use native.Mathlib.Omega.{arith}
-use Rattle.tree_insert.proofs.Steps.{id-low, slot-taken}
+use Rattle.insert_slots.proofs.Steps.{id-low, slot-taken}
 use borrow.Author.Needs.{needs}
-use Rattle.tree_insert.proofs.take_slot.Statement.{statement}
-use Rattle.tree_insert.proofs.take_slot.Tie as tie
+use Rattle.insert_slots.proofs.take_slot.Statement.{statement}
+use Rattle.insert_slots.proofs.take_slot.Tie as tie
 
 cast-x : tie.Need-cast-x
 cast-x c = search needs

@@ -1,10 +1,10 @@
 use mathlib.Core.Path.{refl}
 use mir.Syntax.{w32}
 use mir.ValLaws.{toZ-ofZ}
-use Rattle.tree_insert.proofs.Steps.{local-stored}
+use Rattle.local_stores.proofs.Stores.{local-stored}
 use borrow.Author.Needs.{needs, sfits-of}
-use Rattle.tree_insert.proofs.store_local.Statement.{statement}
-use Rattle.tree_insert.proofs.store_local.Tie as tie
+use Rattle.local_stores.proofs.store_local.Statement.{statement}
+use Rattle.local_stores.proofs.store_local.Tie as tie
 
 construct-requires : tie.Need-construct-requires
 construct-requires c κs = search needs
