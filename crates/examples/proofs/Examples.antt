@@ -29,7 +29,7 @@ use Rattle.tree_steps.specs.Commit.{commitTree}
 use Rattle.tree_steps.specs.Readings.{childrenOf, nextOf}
 use Rattle.tree_run.specs.Run as tree
 use Rattle.tree_rows.proofs.Rows.{after}
-use Rattle.tree_rows.proofs.Damage as rows
+use Rattle.damage_rows.proofs.Damage as rows
 use Rattle.plan.specs.Lists.{keep, any, joined, insertSorted, sorted}
 use Rattle.plan.specs.Plan.{Plan, empty, needsCommit, inserted, removed, moved}
 use Rattle.plan.specs.Visits.{starts, visits, enter, committed}
