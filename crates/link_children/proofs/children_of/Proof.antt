@@ -6,9 +6,9 @@ use borrow.Author.Needs.{needs}
 use Rattle.tree_state.specs.declared.Verdict.the-variants as is
 use Rattle.tree_steps.specs.Readings.{childrenVerdict, childrenOf}
 use Rattle.tree_nodes.proofs.Lengths.{sized}
-use Rattle.link_readings.proofs.Children.{refused, answered, children-accepted}
-use Rattle.link_readings.proofs.children_of.Statement.{statement}
-use Rattle.link_readings.proofs.children_of.Tie as tie
+use Rattle.link_children.proofs.Children.{refused, answered, children-accepted}
+use Rattle.link_children.proofs.children_of.Statement.{statement}
+use Rattle.link_children.proofs.children_of.Tie as tie
 
 of-node-requires : tie.Need-of-node-requires
 of-node-requires c κs = search needs

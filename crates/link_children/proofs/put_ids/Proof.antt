@@ -6,9 +6,9 @@ use lib.Seq.{length-sets}
 use borrow.Author.Needs.{needs}
 use Rattle.cells.specs.Cells.{ofId}
 use Rattle.tree_sound.specs.Parts.{Low}
-use Rattle.link_readings.proofs.Children.{front, front-start, front-next}
-use Rattle.link_readings.proofs.put_ids.Statement.{statement}
-use Rattle.link_readings.proofs.put_ids.Tie as tie
+use Rattle.link_children.proofs.Children.{front, front-start, front-next}
+use Rattle.link_children.proofs.put_ids.Statement.{statement}
+use Rattle.link_children.proofs.put_ids.Tie as tie
 
 abbrev Inv-loop : tie.InvT-loop
 Inv-loop slots n generation room₀ i₀ room i = (i ≤ n) × (n ≤ 256) × (length slots ≡ 256) × (512 ≤ length room₀) × (length room ≡ length room₀) × Low slots n × (room ≡ front generation slots room₀ i)

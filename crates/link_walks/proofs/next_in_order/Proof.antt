@@ -3,9 +3,9 @@ use Prim.Native.Nat.{ℕ, _+_, _<_}
 use native.Mathlib.Omega.{arith}
 use borrow.Author.Needs.{needs}
 use Rattle.tree_nodes.proofs.Lengths.{sized}
-use Rattle.link_readings.proofs.Links.{find-needs, place-low, slot-low, next-ends, next-root, next-there}
-use Rattle.link_readings.proofs.next_in_order.Statement.{statement}
-use Rattle.link_readings.proofs.next_in_order.Tie as tie
+use Rattle.link_walks.proofs.Links.{find-needs, place-low, slot-low, next-ends, next-root, next-there}
+use Rattle.link_walks.proofs.next_in_order.Statement.{statement}
+use Rattle.link_walks.proofs.next_in_order.Tie as tie
 
 position-requires : tie.Need-position-requires
 position-requires c κs =

@@ -6,10 +6,10 @@ use borrow.Author.Needs.{needs}
 use Rattle.tree_sound.specs.Parts.{Sized}
 use Rattle.tree_nodes.proofs.Lengths.{sized}
 use Rattle.tree_need.proofs.Walks.{sound-places}
-use Rattle.link_readings.proofs.Links.{find-needs, place-in, place-low, depth-low}
-use Rattle.link_readings.proofs.Children.{below, below-low, found-lows, put-done}
-use Rattle.link_readings.proofs.put_children.Statement.{statement}
-use Rattle.link_readings.proofs.put_children.Tie as tie
+use Rattle.link_walks.proofs.Links.{find-needs, place-in, place-low, depth-low}
+use Rattle.link_children.proofs.Children.{below, below-low, found-lows, put-done}
+use Rattle.link_children.proofs.put_children.Statement.{statement}
+use Rattle.link_children.proofs.put_children.Tie as tie
 
 position-requires : tie.Need-position-requires
 position-requires c κs =
