@@ -1,7 +1,7 @@
-use Rattle.tap_candidates.specs.Candidates.{reaches}
+use Rattle.tap_fine.specs.Fine.{reaches}
 use borrow.Author.Needs.{needs}
-use Rattle.tap_candidates.proofs.reaches.Statement.{statement}
-use Rattle.tap_candidates.proofs.reaches.Tie as tie
+use Rattle.tap_fine.proofs.reaches.Statement.{statement}
+use Rattle.tap_fine.proofs.reaches.Tie as tie
 
 element-copy-out-clip-at : tie.Need-element-copy-out-clip-at
 element-copy-out-clip-at c = search needs

@@ -1,11 +1,11 @@
-use Rattle.tap_candidates.specs.Candidates.{strongerAt}
+use Rattle.tap_order.specs.Order.{strongerAt}
 use lib.ListN.{getD}
 use lib.IntN.{pos}
 use mir.Syntax.{w32}
 use mir.ValLaws.{toZ-ofZ}
 use borrow.Author.Needs.{needs}
-use Rattle.tap_candidates.proofs.stronger.Statement.{statement}
-use Rattle.tap_candidates.proofs.stronger.Tie as tie
+use Rattle.tap_order.proofs.stronger.Statement.{statement}
+use Rattle.tap_order.proofs.stronger.Tie as tie
 
 cast-position : tie.Need-cast-position
 cast-position c = search needs

@@ -4,11 +4,11 @@ use Prim.Native.Nat.{_-_, _≤_, _<_}
 use lib.ListN.{length}
 use borrow.Author.Tests.{not-true, not-false}
 use Rattle.tree_state.specs.Sound.{everyOf}
-use Rattle.tap_candidates.specs.Candidates.{clipHolds, above}
-use Rattle.tap_candidates.proofs.Climb.{back, turn-past, every-stop, every-on, every-none}
+use Rattle.tap_fine.specs.Fine.{clipHolds, above}
+use Rattle.tap_fine.proofs.Climb.{back, turn-past, every-stop, every-on, every-none}
 use borrow.Author.Needs.{needs}
-use Rattle.tap_candidates.proofs.in_clips.Statement.{statement}
-use Rattle.tap_candidates.proofs.in_clips.Tie as tie
+use Rattle.tap_fine.proofs.in_clips.Statement.{statement}
+use Rattle.tap_fine.proofs.in_clips.Tie as tie
 
 abbrev Inv-loop : tie.InvT-loop
 Inv-loop order depth at kind clip transform point d₀ j₀ d j = (j ≤ at) × (at < 256) × (everyOf (clipHolds kind clip transform point) (above order depth at) ≡ everyOf (clipHolds kind clip transform point) (back d order depth j))

@@ -1,9 +1,10 @@
 use native.Mathlib.Omega.{arith}
 use borrow.Author.Tests.{not-true, not-false}
-use Rattle.tap_candidates.specs.Candidates.{Shown, fineAt}
+use Rattle.tap_order.specs.Order.{Shown}
+use Rattle.tap_fine.specs.Fine.{fineAt}
 use borrow.Author.Needs.{needs}
-use Rattle.tap_candidates.proofs.fine.Statement.{statement}
-use Rattle.tap_candidates.proofs.fine.Tie as tie
+use Rattle.tap_fine.proofs.fine.Statement.{statement}
+use Rattle.tap_fine.proofs.fine.Tie as tie
 
 returns : tie.Need-returns
 returns c = rw (not-true (c .before .args .visited) (c .if1 .taken))

@@ -1,7 +1,7 @@
-use Rattle.tap_candidates.specs.Candidates.{clipHolds}
+use Rattle.tap_fine.specs.Fine.{clipHolds}
 use borrow.Author.Needs.{needs}
-use Rattle.tap_candidates.proofs.in_clip.Statement.{statement}
-use Rattle.tap_candidates.proofs.in_clip.Tie as tie
+use Rattle.tap_fine.proofs.in_clip.Statement.{statement}
+use Rattle.tap_fine.proofs.in_clip.Tie as tie
 
 element-copy-out-clip-at : tie.Need-element-copy-out-clip-at
 element-copy-out-clip-at c = search needs
