@@ -6,8 +6,8 @@ use Rattle.tree_state.specs.declared.Verdict.{Verdict}
 use Rattle.tree_state.specs.declared.Refusal.the-variants as no
 use Rattle.tree_steps.specs.Setters.{ofNode, clipVerdict}
 use Rattle.setter_steps.proofs.Done.{refused, accepted, tested-all, tested-low, clip-stays, clip-done}
-use Rattle.set_places.proofs.set_local_clip.Statement.{statement}
-use Rattle.set_places.proofs.set_local_clip.Tie as tie
+use Rattle.set_clips.proofs.set_local_clip.Statement.{statement}
+use Rattle.set_clips.proofs.set_local_clip.Tie as tie
 
 -- ---- the test, and what it gives
 
