@@ -6,10 +6,10 @@ use lib.ListN.{take, drop, getD, set}
 use Rattle.geometry.specs.declared.rect.Rect.{Rect}
 use Rattle.geometry.specs.Rectangle.{hasArea}
 use Rattle.tree_steps.specs.Structure.{pushRect}
-use Rattle.tree_remove.specs.Remove.{pend}
-use Rattle.tree_remove.proofs.Loop.{Stays, Changes, Left, slot-low, free-low, box-room, queue-fits, owned, next, Inv, inv-first, here, inv-next, inv-last, frees-last, marked-last}
-use Rattle.tree_remove.proofs.remove_nodes.Statement.{statement}
-use Rattle.tree_remove.proofs.remove_nodes.Tie as tie
+use Rattle.remove_steps.specs.Node.{pend}
+use Rattle.remove_loop.proofs.Loop.{Stays, Changes, Left, slot-low, free-low, box-room, queue-fits, owned, next, Inv, inv-first, here, inv-next, inv-last, frees-last, marked-last}
+use Rattle.remove_loop.proofs.remove_nodes.Statement.{statement}
+use Rattle.remove_loop.proofs.remove_nodes.Tie as tie
 
 abbrev Inv-loop : tie.InvT-loop
 Inv-loop gone n bounds committed slot key-generation generation payload aabb kept prev free₀ rects₀ mark₀ entries-free₀ dirty₀ frees pending entries-frees queued f₀ p₀ g₀ q₀ i₀ free rects mark entries-free dirty f p g q i =

@@ -2,11 +2,11 @@ use mathlib.Core.Path.{_≡_, sym, _∙_}
 use mathlib.Core.Bool.{true}
 use borrow.Author.Tests.{not-true, not-false}
 use Rattle.index_entries.specs.declared.Mark.the-variants as is
-use Rattle.tree_remove.specs.Remove.{Owned}
-use Rattle.tree_remove.proofs.Steps.{never-dead, found-unmarked, not-added, none-removed, removed}
+use Rattle.remove_steps.specs.Node.{Owned}
+use Rattle.remove_steps.proofs.Steps.{never-dead, found-unmarked, not-added, none-removed, removed}
 use borrow.Author.Needs.{needs}
-use Rattle.tree_remove.proofs.remove_key.Statement.{statement}
-use Rattle.tree_remove.proofs.remove_key.Tie as tie
+use Rattle.remove_steps.proofs.remove_key.Statement.{statement}
+use Rattle.remove_steps.proofs.remove_key.Tie as tie
 
 returns : tie.Need-returns
 returns c =

@@ -1,9 +1,9 @@
 use mathlib.Core.Path.{sym, _∙_}
 use native.Mathlib.Omega.{arith}
-use Rattle.tree_remove.proofs.Steps.{pushed, not-pushed}
+use Rattle.remove_steps.proofs.Steps.{pushed, not-pushed}
 use borrow.Author.Needs.{needs}
-use Rattle.tree_remove.proofs.push_damage_rect.Statement.{statement}
-use Rattle.tree_remove.proofs.push_damage_rect.Tie as tie
+use Rattle.remove_steps.proofs.push_damage_rect.Statement.{statement}
+use Rattle.remove_steps.proofs.push_damage_rect.Tie as tie
 
 has-area-requires : tie.Need-has-area-requires
 has-area-requires c κs = search needs

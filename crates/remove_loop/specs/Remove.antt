@@ -1,4 +1,4 @@
--- What the steps of a removal leave of the tables that they are lent, and what they require of them.
+-- What the loop of a removal leaves of the tables that it is lent, and what it requires of them.
 use Prim.Native.Nat.{ℕ, _+_, _≤_, _<_}
 use mathlib.Core.Path.{_≡_}
 use mathlib.Core.Bool.{Bool, true, false}
@@ -7,18 +7,13 @@ use lib.ListN.{length, getD}
 use lib.Ieee.{Float}
 use Rattle.counting.specs.Times.{times}
 use Rattle.geometry.specs.Rectangle.{hasArea}
-use Rattle.boxes.specs.declared.Key.{Key}
 use Rattle.node_tables.specs.Tables.{rectAt}
-use Rattle.index_entries.specs.Entries.{stands}
 use Rattle.index_sound.proofs.Exact.{CountOf}
 use Rattle.tree_state.specs.declared.Pending.{Pending}
 use Rattle.tree_state.specs.Sound.{countOf}
 use Rattle.keep_remove.proofs.Counts as keys
 use Rattle.keep_remove.proofs.Entries.{Plain, marksAll, queueAll, lengthAll}
 use Rattle.keep_remove.proofs.Fold as fold
-
-abbrev pub pend : List Float → ℕ → Pending
-pend rects n = record { rects = rects; count = n }
 
 -- the boxes of these slots, one after the other, each if it has area
 abbrev pub pendingAll : List Float → Pending → List ℕ → Pending
@@ -33,13 +28,6 @@ pub record Marked (ks mark dirty : List ℕ) (queued : ℕ) (mark' dirty' : List
   pub mark-is : mark' ≡ marksAll mark ks
   pub dirty-is : dirty' ≡ queueAll dirty queued ks
   pub queued-is : queued' ≡ lengthAll dirty queued ks
-
--- a live key, whose entry has no mark
-pub record Owned (generation mark dirty : List ℕ) (queued : ℕ) (k : Key) : Type 0 where
-  pub low : k .0 < 512
-  pub unmarked : getD mark (k .0) 0 ≡ 1
-  pub under-key : getD generation (k .0) 0 ≡ k .1
-  pub room : stands (k .0) dirty queued ≡ false → queued < 512
 
 -- these slots can go: there is room for them and their boxes, and the committed ones own entries without a mark, none twice, in a sound index
 pub record Ready (bounds : List Float) (committed : List Bool) (slot keyGeneration generation : List ℕ) (frees pending : ℕ) (mark free : List ℕ) (entriesFrees : ℕ) (dirty : List ℕ) (queued : ℕ) (xs : List ℕ) : Type 0 where

@@ -21,7 +21,7 @@ use Rattle.index_entries.specs.Entries.{queueWith, lengthWith, markOf, liveKey,
 use Rattle.index_entries.proofs.Slots.{look-live, look-dead}
 use Rattle.tree_state.specs.declared.Pending.{Pending}
 use Rattle.tree_steps.specs.Structure.{pushRect}
-use Rattle.tree_remove.specs.Remove.{pend, Owned}
+use Rattle.remove_steps.specs.Node.{pend, Owned}
 
 -- ---- pending rectangles
 

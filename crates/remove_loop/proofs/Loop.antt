@@ -24,8 +24,9 @@ use Rattle.plan.specs.Lists.{joined}
 use Rattle.plan.specs.Plan.{numbers}
 use Rattle.agreement.proofs.Same.{entryIf}
 use Rattle.keep_remove.proofs.Entries.{Plain, marksAll, queueAll, lengthAll, first-low, first-unmarked, plain-next, queue-length, keep-keys}
-use Rattle.tree_remove.specs.Remove.{pend, pendingAll, keysIn, Marked, Owned, Ready}
-use Rattle.tree_remove.proofs.Steps.{push-count}
+use Rattle.remove_steps.specs.Node.{pend, Owned}
+use Rattle.remove_loop.specs.Remove.{pendingAll, keysIn, Marked, Ready}
+use Rattle.remove_steps.proofs.Steps.{push-count}
 
 -- ---- entries: one more node, which has one if b says so
 
