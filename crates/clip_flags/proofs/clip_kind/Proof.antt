@@ -1,7 +1,7 @@
 use Rattle.node_cells.specs.Tables.{kindOf}
 use borrow.Author.Needs.{needs}
-use Rattle.node_clips.proofs.clip_kind.Statement.{statement}
-use Rattle.node_clips.proofs.clip_kind.Tie as tie
+use Rattle.clip_flags.proofs.clip_kind.Statement.{statement}
+use Rattle.clip_flags.proofs.clip_kind.Tie as tie
 
 enum-told : tie.Need-enum-told
 enum-told c = search needs

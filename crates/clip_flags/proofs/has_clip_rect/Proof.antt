@@ -1,7 +1,7 @@
 use Rattle.node_cells.specs.Tables.{isThere}
 use borrow.Author.Needs.{needs}
-use Rattle.node_clips.proofs.has_clip_rect.Statement.{statement}
-use Rattle.node_clips.proofs.has_clip_rect.Tie as tie
+use Rattle.clip_flags.proofs.has_clip_rect.Statement.{statement}
+use Rattle.clip_flags.proofs.has_clip_rect.Tie as tie
 
 enum-told : tie.Need-enum-told
 enum-told c = search needs

@@ -1,7 +1,7 @@
 use Rattle.node_cells.specs.Tables.{clipRectAt}
 use borrow.Author.Needs.{needs}
-use Rattle.node_clips.proofs.clip_rect_at.Statement.{statement}
-use Rattle.node_clips.proofs.clip_rect_at.Tie as tie
+use Rattle.clip_flags.proofs.clip_rect_at.Statement.{statement}
+use Rattle.clip_flags.proofs.clip_rect_at.Tie as tie
 
 rect-at-requires : tie.Need-rect-at-requires
 rect-at-requires c κs = search needs

@@ -1,7 +1,7 @@
 use Rattle.node_cells.specs.Tables.{putClipRect}
 use borrow.Author.Needs.{needs}
-use Rattle.node_clips.proofs.put_clip_rect.Statement.{statement}
-use Rattle.node_clips.proofs.put_clip_rect.Tie as tie
+use Rattle.clip_flags.proofs.put_clip_rect.Statement.{statement}
+use Rattle.clip_flags.proofs.put_clip_rect.Tie as tie
 
 enum-known-c : tie.Need-enum-known-c
 enum-known-c c = search needs
