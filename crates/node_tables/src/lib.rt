@@ -3,7 +3,7 @@ pub use clip_flags::clip_kind;
 pub use clip_flags::clip_rect_at;
 pub use clip_flags::has_clip_rect;
 pub use clip_flags::put_clip_rect;
-pub use clip_rows::put_clip;
+pub use clip_cells::put_clip;
 pub use node_boxes::affine_at;
 pub use node_boxes::insets_at;
 pub use node_boxes::put_affine;

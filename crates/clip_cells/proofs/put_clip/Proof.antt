@@ -3,8 +3,8 @@ use Rattle.cells.proofs.Segments.{plus-2, plus-3}
 use Rattle.node_boxes.proofs.Steps.{plus-4, plus-5, plus-6, plus-7}
 use Rattle.node_cells.specs.Tables.{putClip}
 use borrow.Author.Needs.{needs}
-use Rattle.clip_rows.proofs.put_clip.Statement.{statement}
-use Rattle.clip_rows.proofs.put_clip.Tie as tie
+use Rattle.clip_cells.proofs.put_clip.Statement.{statement}
+use Rattle.clip_cells.proofs.put_clip.Tie as tie
 
 clip-edges-requires : tie.Need-clip-edges-requires
 clip-edges-requires c κs = search needs

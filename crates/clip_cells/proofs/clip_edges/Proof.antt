@@ -1,8 +1,8 @@
 use lib.Ieee.{ofBits, ofFields, odd}
 use Rattle.node_cells.specs.Tables.{edgesFrom}
 use borrow.Author.Needs.{needs}
-use Rattle.clip_rows.proofs.clip_edges.Statement.{statement}
-use Rattle.clip_rows.proofs.clip_edges.Tie as tie
+use Rattle.clip_cells.proofs.clip_edges.Statement.{statement}
+use Rattle.clip_cells.proofs.clip_edges.Tie as tie
 
 rect-requires : tie.Need-rect-requires
 rect-requires c κs = search needs
