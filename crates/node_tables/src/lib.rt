@@ -1,4 +1,9 @@
 // Typed values of 256 nodes in flat tables of numbers: a rectangle or insets four f64 in a row, a transform six, a clip its kind and eight.
+pub use clip_flags::clip_kind;
+pub use clip_flags::clip_rect_at;
+pub use clip_flags::has_clip_rect;
+pub use clip_flags::put_clip_rect;
+pub use clip_cells::put_clip;
 pub use node_boxes::affine_at;
 pub use node_boxes::insets_at;
 pub use node_boxes::put_affine;
@@ -6,8 +11,3 @@ pub use node_boxes::put_insets;
 pub use node_boxes::put_rect;
 pub use node_boxes::rect_at;
 pub use node_clips::clip_at;
-pub use node_clips::clip_kind;
-pub use node_clips::clip_rect_at;
-pub use node_clips::has_clip_rect;
-pub use node_clips::put_clip;
-pub use node_clips::put_clip_rect;

@@ -1,2 +1,1 @@
-pub mod Climb
 pub mod Tap

@@ -25,7 +25,9 @@ use Rattle.tree_nodes.proofs.Nodes.{Held}
 use Rattle.tree_sound.specs.Parts.{Sized}
 use Rattle.tree_need.proofs.Walks.{sound-places, sound-used}
 use Rattle.listing_entries.proofs.Entries.{nodeOf, keep-slots, carries-live}
-use Rattle.tap_candidates.specs.Candidates.{Shown, Tappable, clipHolds, reaches, fineAt, strongerAt, bestOf, kept}
+use Rattle.tap_order.specs.Order.{strongerAt, kept}
+use Rattle.tap_fine.specs.Fine.{clipHolds, reaches, fineAt}
+use Rattle.tap_candidates.specs.Candidates.{Shown, Tappable, bestOf}
 
 unseen : (p m o : Bool) → m ≡ false → p && (m && o) ≡ false
 unseen true m o e = rw e

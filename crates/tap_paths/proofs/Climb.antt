@@ -17,8 +17,8 @@ use Rattle.cells.specs.Stride.{store}
 use Rattle.cells.specs.Cells.{ofId}
 use Rattle.tree_steps.specs.Requests.{idsInFront}
 use Rattle.listing_entries.proofs.Rooms.{back-one, front-none}
-use Rattle.tap_candidates.proofs.Climb.{back-none, back-here, back-past, turn-here, turn-past}
-pub use Rattle.tap_candidates.proofs.Climb.{back}
+use Rattle.tap_fine.proofs.Climb.{back-none, back-here, back-past, turn-here, turn-past}
+pub use Rattle.tap_fine.proofs.Climb.{back}
 
 -- ---- the depths belong to some forest
 

@@ -3,7 +3,7 @@ use mathlib.Core.List.{List, _∷_, reverse, map}
 use Prim.Native.Nat.{ℕ}
 use lib.ListN.{getD}
 use Rattle.boxes.specs.declared.NodeId.{NodeId}
-use Rattle.tap_candidates.specs.Candidates.{above}
+use Rattle.tap_fine.specs.Fine.{above}
 
 abbrev pub idIn : List ℕ → ℕ → NodeId
 idIn generation x = record { 0 = x; 1 = getD generation x 0 }

@@ -31,8 +31,9 @@ use Rattle.tree_changes.proofs.Handed.{whole}
 use Rattle.keep_remove.proofs.Fold.{pending-count, freed, goneKeys}
 use Rattle.keep_remove.proofs.Entries.{withoutKeys}
 use Rattle.keep_remove.proofs.Keep as keep
-use Rattle.tree_remove.specs.Remove.{pend, pendingAll, keysIn, Marked, Ready}
-use Rattle.tree_remove.proofs.Loop.{Stays, Changes, ReadyFor}
+use Rattle.remove_steps.specs.Node.{pend}
+use Rattle.remove_loop.specs.Remove.{pendingAll, keysIn, Marked, Ready}
+use Rattle.remove_loop.proofs.Loop.{Stays, Changes, ReadyFor}
 
 -- a tree's tables
 abbrev pub staysOf : Tree → Stays

@@ -29,7 +29,7 @@ use Rattle.tree_state.specs.Tree as tree
 use Rattle.tree_state.specs.Tree.{liveSlots, isLive, localAt, clipOf, markedAt, transformChangedAt, clipChangedAt, committedAt, keyAt, storedBounds, storedHitBounds, entryMark, isRemoved}
 use Rattle.tree_state.specs.Sound.{Live, Owns, Uncommitted, SoundTree, everyOf, slotsRight, valuesRight, marksRight, sameId, ownsRight, newRight, nodeRight, ownerOf, ownedRight, entryRight, countsRight, soundTree, removedEntries, committedNodes}
 use Rattle.tree_sound.specs.Parts.{Sized}
-use Rattle.sound_parts.proofs.Walks.{live-by}
+use Rattle.sound_nodes.proofs.Walks.{live-by}
 
 -- ---- more of the kit
 

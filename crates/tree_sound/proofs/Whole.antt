@@ -22,7 +22,7 @@ use Rattle.tree_state.specs.Tree.{liveSlots, localAt, committedAt, keyAt, idAt,
 use Rattle.tree_state.specs.Sound.{countBelow, everyOf, slotsRight, nodeRight, entryRight, ownerOf, countsRight, soundTree, removedEntries, committedNodes}
 use Rattle.tree_sound.specs.Parts.{Low, valuesAt, marksAt, ownsAt, newAt, ownedAt, entryAt}
 use Rattle.tree_sound.proofs.Used.{every-used, below-used}
-use Rattle.sound_parts.proofs.Walks.{every-alike, every-both, cond-both, live-by}
+use Rattle.sound_nodes.proofs.Walks.{every-alike, every-both, cond-both, live-by}
 
 -- ---- what the slots' test gives to the functions that index by slots
 

@@ -6,8 +6,9 @@ use mathlib.Core.List.{List}
 use lib.ListN.{length}
 use lib.Ieee.{Float}
 use Rattle.tree_state.specs.declared.Tree.{Tree}
-pub use Rattle.sound_parts.specs.Parts.{Low}
-unfoldable pub use Rattle.sound_parts.specs.Parts.{valuesAt, marksAt, ownsAt, newAt, ownedAt, entryAt}
+pub use Rattle.sound_nodes.specs.Nodes.{Low}
+unfoldable pub use Rattle.sound_nodes.specs.Nodes.{valuesAt, marksAt, newAt}
+unfoldable pub use Rattle.sound_entries.specs.Entries.{ownsAt, ownedAt, entryAt}
 
 -- ---- the lengths of the tables that "Sound tree" goes through, as their types have them
 

@@ -4,9 +4,6 @@ ghost use lib.ListN.{length};
 ghost use Rattle.tree_state.specs.declared.Tree.{Tree};
 ghost use Rattle.tree_state.specs.Sound.{soundTree};
 ghost use Rattle.tree_sound.specs.Parts as spec;
-use sound_parts::entries;
-use sound_parts::nodes;
-use sound_parts::slots;
 use tree_state::Tree;
 
 // Inner: the test over the tables of a tree, whose other tables it does not read.
@@ -45,7 +42,7 @@ pub fn sound_tables<'a>(
     requires { ⌜ (length (now order) ≡ 256) × (length (now depth) ≡ 256) × (length (now spare) ≡ 256) × (length (now mark) ≡ 512) × (length (now free) ≡ 512) × (length (now dirty) ≡ 512) ⌝ }
     ensures { λ r. ⌜ ((t : Tree) → r ≡ soundTree (spec.lent t (now (order .entry)) (now (depth .entry)) (now (ages .entry)) (now (spare .entry)) (now (bounds .entry)) (now (slop .entry)) (now (transform .entry)) (now (kind .entry)) (now (clip .entry)) (now (flags .entry)) (now (world .entry)) (now (hit .entry)) (now (marked .entry)) (now (moved .entry)) (now (clipped .entry)) (now (committed .entry)) (now (slot .entry)) (now (under .entry)) (now (mark .entry)) (now (generation .entry)) (now (payload .entry)) (now (free .entry)) (now (dirty .entry)) n used spares pending frees queued taken)) ⌝ }
 {
-    let live = slots::count_slots(order, n, spare, spares, used);
+    let live = sound_slots::count_slots(order, n, spare, spares, used);
     if !live.ok {
         return false;
     }
@@ -54,9 +51,9 @@ pub fn sound_tables<'a>(
     if !index {
         return false;
     }
-    let values = nodes::values_right(order, n, bounds, slop, transform, kind, clip, flags);
-    let marks = nodes::marks_right(order, n, marked, moved, clipped);
-    let owners = nodes::owners_right(
+    let values = sound_parts::values_right(order, n, bounds, slop, transform, kind, clip, flags);
+    let marks = sound_nodes::marks_right(order, n, marked, moved, clipped);
+    let owners = sound_parts::owners_right(
         order,
         n,
         committed,
@@ -67,10 +64,10 @@ pub fn sound_tables<'a>(
         generation,
         payload,
     );
-    let new = nodes::new_right(order, n, committed, world, hit, moved, clipped);
-    let entries = entries::entries_right(&live.times, committed, slot, mark, payload, taken);
-    let removed = entries::count_removed(mark, taken);
-    let owning = entries::count_committed(order, n, committed);
+    let new = sound_parts::new_right(order, n, committed, world, hit, moved, clipped);
+    let entries = sound_entries::entries_right(&live.times, committed, slot, mark, payload, taken);
+    let removed = sound_parts::count_removed(mark, taken);
+    let owning = sound_parts::count_committed(order, n, committed);
     let few = (pending <= removed) & (removed + owning <= 256);
     shape & (values & (marks & (owners & new)) & (entries & few))
 }

@@ -8,7 +8,7 @@ use Rattle.tree_steps.specs.Readings.{parentOf}
 use Rattle.tree_answers.specs.declared.AnswerNode.the-variants as link
 use Rattle.tree_answers.specs.Answers.{linkOf}
 use Rattle.tree_nodes.proofs.Lengths.{sized}
-use Rattle.link_readings.proofs.Links.{find-needs, place-low, parentAt, parent-none, parent-some}
+use Rattle.link_walks.proofs.Links.{find-needs, place-low, parentAt, parent-none, parent-some}
 use Rattle.link_readings.proofs.parent.Statement.{statement}
 use Rattle.link_readings.proofs.parent.Tie as tie
 

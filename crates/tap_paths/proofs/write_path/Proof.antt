@@ -6,7 +6,7 @@ use lib.ListN.{length, getD}
 use lib.Seq.{length-sets}
 use Rattle.cells.specs.Cells.{ofId}
 use Rattle.tree_steps.specs.Requests.{idsInFront}
-use Rattle.tap_candidates.specs.Candidates.{above}
+use Rattle.tap_fine.specs.Fine.{above}
 use Rattle.tap_paths.specs.Paths.{idIn, pathAt}
 use Rattle.tap_paths.proofs.Climb.{back, deep-one, deep-most, path-turn, path-skip, path-ends}
 use borrow.Author.Needs.{needs}
