@@ -7,7 +7,7 @@ use lib.ListN.{getD}
 use Rattle.plan_sheet.specs.declared.PlaceLine.{PlaceLine}
 use Rattle.plan_sheet.specs.Sheet.{placeOf}
 use Rattle.plan_sheet.specs.Told.{rowAt}
-use Rattle.plan_sheet.proofs.Whole.{cell, cell-0}
+use Rattle.plan_sheet.proofs.Tables.{cell, cell-0}
 
 -- a row of the places
 place-row : (i : ℕ) (t : List ℤ) → _≡_ {A = PlaceLine} (record { parent = getD t (i * 11) (pos 0); orientation = getD t (i * 11 + 1) (pos 0); x = getD t (i * 11 + 2) (pos 0); y = getD t (i * 11 + 3) (pos 0); x0 = getD t (i * 11 + 4) (pos 0); y0 = getD t (i * 11 + 5) (pos 0); x1 = getD t (i * 11 + 6) (pos 0); y1 = getD t (i * 11 + 7) (pos 0); slop = getD t (i * 11 + 8) (pos 0); level = getD t (i * 11 + 9) (pos 0); flags = getD t (i * 11 + 10) (pos 0) }) (placeOf (rowAt 11 i t))
