@@ -1,4 +1,4 @@
--- `sheet_tree::insert_all` meets its contract. The loop's invariant: the tables are those of the tree of the first i places. Assumes nothing.
+-- `sheet_places::insert_all` meets its contract. The loop's invariant: the tables are those of the tree of the first i places. Assumes nothing.
 use Prim.Native.Nat.{suc, _-_, _≤_, _<_}
 use mathlib.Core.Path.{_≡_, ap, _∙_}
 use native.Mathlib.Numerals.{add-one}
@@ -11,11 +11,11 @@ use Rattle.plan_sheet.specs.Told.{rowsOf, rowAt}
 use Rattle.sheet_calls.specs.Calls.{clipFor, parentAt, localOf}
 use Rattle.sheet_laws.specs.Built.{treeUpTo}
 use Rattle.sheet_inserts.specs.Places.{tree}
-use Rattle.sheet_tree.specs.Rows.{sheetOf}
-use Rattle.sheet_tree.proofs.Steps.{Accepted, few-places, few-clips, clips-ranged, place-accepted}
-use Rattle.sheet_tree.proofs.Tables.{start, made, fits, next}
-use Rattle.sheet_tree.proofs.insert_all.Statement.{statement}
-use Rattle.sheet_tree.proofs.insert_all.Tie as tie
+use Rattle.sheet_places.specs.Rows.{sheetOf}
+use Rattle.sheet_places.proofs.Steps.{Accepted, few-places, few-clips, clips-ranged, place-accepted}
+use Rattle.sheet_places.proofs.Tables.{start, made, fits, next}
+use Rattle.sheet_places.proofs.insert_all.Statement.{statement}
+use Rattle.sheet_places.proofs.insert_all.Tie as tie
 
 abbrev Inv-loop : tie.InvT-loop
 Inv-loop places n clips m worlds keys pending index generation₀ free order₀ depth₀ bounds₀ slop₀ transform₀ kind₀ clip₀ level₀ flags₀ marked₀ changed₀ changed-clip₀ i₀ generation order depth bounds slop transform kind clip level flags marked changed changed-clip i =

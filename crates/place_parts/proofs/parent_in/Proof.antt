@@ -1,11 +1,11 @@
--- `sheet_tree::parent_in` meets its contract. Assumes nothing.
+-- `place_parts::parent_in` meets its contract. Assumes nothing.
 use mathlib.Core.Path.{ap, _∙_}
 use native.Mathlib.Omega.{arith}
 use lib.IntN.{natAbs}
 use Rattle.sheet_calls.specs.Calls.{parentAt}
 use Rattle.sheet_nodes.proofs.Signed.{back, word-near}
-use Rattle.sheet_tree.proofs.parent_in.Statement.{statement}
-use Rattle.sheet_tree.proofs.parent_in.Tie as tie
+use Rattle.place_parts.proofs.parent_in.Statement.{statement}
+use Rattle.place_parts.proofs.parent_in.Tie as tie
 
 parent-of-requires : tie.Need-parent-of-requires
 parent-of-requires c κs = word-near (c .before .args .p .parent) (c .before .pre .0) (c .before .pre .1)

@@ -1,43 +1,31 @@
--- Parents, and what a good sheet in its tables gives each of its calls. Assumes nothing.
-use Prim.Native.Nat.{ℕ, zero, suc, _-_, _≤_, _<_}
+-- What a good sheet in its tables gives each of its inserts. Assumes nothing.
+use Prim.Native.Nat.{ℕ, suc, _-_, _≤_, _<_}
 use mathlib.Core.Path.{_≡_, refl, sym, ap, _∙_, subst}
 use mathlib.Core.Bool.{true, _&&_}
-use mathlib.Core.List.{List, [], _∷_}
+use mathlib.Core.List.{List, []}
 use native.Mathlib.Omega.{arith}
 use lib.IntN.{ℤ, pos, negsuc, natAbs}
 use lib.Signed.{leZ}
-use lib.ListN.{length, take, getD}
+use lib.ListN.{length, take}
 use lib.Seq.{length-take-le}
 use borrow.Author.Tests.{leb-true}
 use Rattle.numbers.proofs.Bools.{clash, and-right}
 use Rattle.clips.specs.declared.clip.Clip.{Clip}
-use Rattle.box_types.specs.declared.OptionNodeId.the-variants as node
 use Rattle.tree_state.specs.declared.Tree.{Tree}
 use Rattle.tree_state.specs.declared.Verdict.the-variants as is
 use Rattle.tree_steps.specs.Structure.{insertVerdict, insertTree}
-use Rattle.tree_steps.specs.Commit.{commitTree}
 use Rattle.tree_run.specs.Run as tree
-use Rattle.plan.specs.Calls as call
 use Rattle.plan_sheet.specs.declared.PlaceLine.{PlaceLine}
-use Rattle.plan_sheet.specs.Sheet.{Sheet, placeOf, clipOf, placeInRange, clipInRange, parentEarlier, placeRule, clipRule}
+use Rattle.plan_sheet.specs.Sheet.{placeOf, clipOf, placeInRange, clipInRange, parentEarlier, placeRule, clipRule}
 use Rattle.sheet_calls.specs.Calls.{parentAt, localOf, clipFor, insertOf}
 use Rattle.sheet_calls.specs.Good.{Good, Fair}
 use Rattle.sheet_calls.proofs.Inserts.{passes-at}
 use Rattle.plan_sheet.specs.Told.{rowsOf, rowAt}
-use Rattle.sheet_laws.specs.Built.{treeUpTo, treeOf}
-use Rattle.sheet_laws.proofs.Tree.{insert-accepted, insert-next, commit-last}
+use Rattle.sheet_laws.specs.Built.{treeUpTo}
+use Rattle.sheet_laws.proofs.Tree.{insert-accepted, insert-next}
 use Rattle.sheet_laws.proofs.Tables.{rows-many, rows-at}
-use Rattle.sheet_tree.specs.Rows.{sheetOf, ClipsRanged}
-
-pub no-parent : (n : ℕ) → n ≡ 0 → node.None ≡ parentAt n
-no-parent zero e = refl
-no-parent (suc n) e = absurd (omega arith)
-
-pub some-parent : (m n : ℕ) → m ≡ n → (m ≡ 0 → ⊥) → node.Some record { 0 = m - 1; 1 = 1 } ≡ parentAt n
-some-parent m zero e h = absurd (h e)
-some-parent m (suc n) e h = let k : m - 1 ≡ n = omega arith in rw k
-
--- ---- a good sheet in its tables
+use Rattle.place_parts.specs.Clips.{ClipsRanged}
+use Rattle.sheet_places.specs.Rows.{sheetOf}
 
 -- a parent's number
 upward : (z : ℤ) (n : ℕ) → leZ (pos 0) z && leZ z (pos n) ≡ true → (z ≡ pos (natAbs z)) × (natAbs z ≤ n)
@@ -95,8 +83,3 @@ module _ (places : List ℤ) (n : ℕ) (clips : List ℤ) (m : ℕ) (g : Good (s
     unfolding tree.accepted insertOf
     place-next =
         sym (subst (λ (r : List ℤ). treeUpTo (sheetOf places n clips m) (suc i) ≡ tree.accepted (treeUpTo (sheetOf places n clips m) i) (insertOf (rowsOf 6 m clips) (suc i) (placeOf r))) (rows-at 11 n places i h) (insert-next (sheetOf places n clips m) g i low))
-
-  -- the commit is the last call
-  pub committed : commitTree (treeUpTo (sheetOf places n clips m) n) .tree ≡ treeOf (sheetOf places n clips m)
-  unfolding tree.accepted
-  committed = sym (subst (λ (k : ℕ). treeOf (sheetOf places n clips m) ≡ tree.accepted (treeUpTo (sheetOf places n clips m) k) (call.commit 2048)) (rows-many 11 n places) (commit-last (sheetOf places n clips m) g))

@@ -1,4 +1,4 @@
--- `sheet_tree::clip_for` meets its contract. The loop's invariant: the clip is that of the rows from i on. Assumes nothing.
+-- `place_parts::clip_for` meets its contract. The loop's invariant: the clip is that of the rows from i on. Assumes nothing.
 use Prim.Native.Nat.{_-_, _≤_}
 use mathlib.Core.Path.{_≡_, refl, sym, ap, _∙_}
 use native.Mathlib.Omega.{arith}
@@ -12,8 +12,8 @@ use Rattle.plan_sheet.specs.Sheet.{clipOf, clipInRange}
 use Rattle.sheet_calls.specs.Calls.{equal, clipOn}
 use Rattle.plan_sheet.specs.Told.{rowAt}
 use Rattle.sheet_laws.proofs.Tables.{clipFrom, none-left, this-one, not-this}
-use Rattle.sheet_tree.proofs.clip_for.Statement.{statement}
-use Rattle.sheet_tree.proofs.clip_for.Tie as tie
+use Rattle.place_parts.proofs.clip_for.Statement.{statement}
+use Rattle.place_parts.proofs.clip_for.Tie as tie
 
 abbrev Inv-loop : tie.InvT-loop
 Inv-loop clips m k i₀ i = (i ≤ m) × (clipFrom m clips k i ≡ clipFrom m clips k 0)

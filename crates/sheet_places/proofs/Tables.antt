@@ -27,8 +27,8 @@ use Rattle.sheet_calls.specs.Good.{Good}
 use Rattle.sheet_laws.specs.Built.{treeUpTo}
 use Rattle.sheet_laws.proofs.Tree.{fresh-start, sound-up-to}
 use Rattle.sheet_inserts.specs.Places.{tree, Placed, Fits}
-use Rattle.sheet_tree.specs.Rows.{sheetOf}
-use Rattle.sheet_tree.proofs.Steps.{Accepted, place-accepted, place-next}
+use Rattle.sheet_places.specs.Rows.{sheetOf}
+use Rattle.sheet_places.proofs.Steps.{Accepted, place-accepted, place-next}
 
 -- ---- a tree that accepts an insert
 

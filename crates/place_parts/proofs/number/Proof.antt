@@ -1,8 +1,8 @@
--- `sheet_tree::number` meets its contract. Assumes nothing.
+-- `place_parts::number` meets its contract. Assumes nothing.
 use native.Mathlib.Omega.{arith}
 use Rattle.sheet_nodes.proofs.Signed.{back, to-word}
-use Rattle.sheet_tree.proofs.number.Statement.{statement}
-use Rattle.sheet_tree.proofs.number.Tie as tie
+use Rattle.place_parts.proofs.number.Statement.{statement}
+use Rattle.place_parts.proofs.number.Tie as tie
 
 cast-result : tie.Need-cast-result
 cast-result c = to-word (c .args .k) (c .pre .0) (c .pre .1)

@@ -1,13 +1,13 @@
--- `sheet_tree::parent_of` meets its contract. Assumes nothing.
+-- `place_parts::parent_of` meets its contract. Assumes nothing.
 use mathlib.Core.Path.{_≡_, sym, ap, _∙_}
 use native.Mathlib.Omega.{arith}
 use borrow.Author.Needs.{needs}
 use lib.IntN.{natAbs, pos}
 use Rattle.sheet_calls.specs.Calls.{parentAt}
 use Rattle.sheet_nodes.proofs.Signed.{back, word-near}
-use Rattle.sheet_tree.proofs.Steps.{no-parent, some-parent}
-use Rattle.sheet_tree.proofs.parent_of.Statement.{statement}
-use Rattle.sheet_tree.proofs.parent_of.Tie as tie
+use Rattle.place_parts.proofs.Parents.{no-parent, some-parent}
+use Rattle.place_parts.proofs.parent_of.Statement.{statement}
+use Rattle.place_parts.proofs.parent_of.Tie as tie
 
 number-requires : tie.Need-number-requires
 number-requires c κs = word-near (c .args .k) (c .pre .0) (c .pre .1)

@@ -1,10 +1,10 @@
--- `sheet_tree::is_place` meets its contract. Assumes nothing.
+-- `place_parts::is_place` meets its contract. Assumes nothing.
 use native.Mathlib.Omega.{arith}
 use lib.IntN.{pos}
 use mir.Facts.{toZ-ofZ}
 use Rattle.sheet_nodes.proofs.Signed.{back}
-use Rattle.sheet_tree.proofs.is_place.Statement.{statement}
-use Rattle.sheet_tree.proofs.is_place.Tie as tie
+use Rattle.place_parts.proofs.is_place.Statement.{statement}
+use Rattle.place_parts.proofs.is_place.Tie as tie
 
 cast-equal : tie.Need-cast-equal
 cast-equal c = record { sfits = omega arith }
