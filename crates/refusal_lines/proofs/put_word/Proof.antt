@@ -1,10 +1,10 @@
--- `sheet_answers::put_word` meets its contract. Assumes nothing.
+-- `refusal_lines::put_word` meets its contract. Assumes nothing.
 use mathlib.Core.Path.{refl}
 use native.Mathlib.Omega.{arith}
 use lib.ListN.{length-set}
 use borrow.Author.Needs.{needs}
-use Rattle.sheet_answers.proofs.put_word.Statement.{statement}
-use Rattle.sheet_answers.proofs.put_word.Tie as tie
+use Rattle.refusal_lines.proofs.put_word.Statement.{statement}
+use Rattle.refusal_lines.proofs.put_word.Tie as tie
 
 slice-write-room : tie.Need-slice-write-room
 slice-write-room c = search needs

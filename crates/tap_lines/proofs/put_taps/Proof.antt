@@ -1,12 +1,11 @@
--- `sheet_answers::put_taps` meets its contract. The loop's invariant: the lines of the first i taps are stored, 15 bytes each at the most.
+-- `tap_lines::put_taps` meets its contract. The loop's invariant: the lines of the first i taps are stored, 15 bytes each at the most.
 -- Assumes nothing.
-use mathlib.Core.Path.{_≡_, refl, sym, ap, ap₂, _∙_, subst}
+use mathlib.Core.Path.{_≡_, sym, ap, ap₂, _∙_, subst}
 use mathlib.Core.List.{List, [], _∷_, _++_}
-use Prim.Native.Nat.{ℕ, _+_, _*_, _-_, _≤_, _<_}
+use Prim.Native.Nat.{ℕ, _+_, _*_, _-_, _≤_}
 use native.Mathlib.Omega.{arith}
 use borrow.Author.Needs.{needs}
 use lib.ListN.{length, take, length-append}
-use Rattle.tree_state.specs.declared.Tree.{Tree}
 use Rattle.tree_steps.specs.Requests.{hitNode}
 use Rattle.tree_nodes.proofs.Lengths.{sized}
 use Rattle.tree_listings.proofs.Entries.{Accepted, accepted}
@@ -20,10 +19,10 @@ use Rattle.sheet_taps.specs.Taps.{answered}
 use Rattle.sheet_taps.proofs.Hits.{answer-is}
 use Rattle.sheet_text.specs.Text.{Stored}
 use Rattle.sheet_text.proofs.Digits.{nothing-stored, then-stored, room-kept}
-use Rattle.sheet_answers.specs.Text.{found, tapLine, tapText, Ready}
-use Rattle.sheet_answers.proofs.Lines.{short-line, next-text, all-text, no-text}
-use Rattle.sheet_answers.proofs.put_taps.Statement.{statement}
-use Rattle.sheet_answers.proofs.put_taps.Tie as tie
+use Rattle.tap_lines.specs.Lines.{found, tapLine, tapText, Ready}
+use Rattle.tap_lines.proofs.Lines.{short-line, next-text, all-text, no-text}
+use Rattle.tap_lines.proofs.put_taps.Statement.{statement}
+use Rattle.tap_lines.proofs.put_taps.Tie as tie
 
 abbrev Inv-loop : tie.InvT-loop
 Inv-loop taps n at room₀ t next₀ i₀ room next i =

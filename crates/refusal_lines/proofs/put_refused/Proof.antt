@@ -1,5 +1,5 @@
--- `sheet_answers::put_refused` meets its contract. Assumes nothing.
-use mathlib.Core.Path.{_≡_, refl, sym, ap, _∙_}
+-- `refusal_lines::put_refused` meets its contract. Assumes nothing.
+use mathlib.Core.Path.{sym}
 use mathlib.Core.List.{[], _∷_}
 use native.Mathlib.Omega.{arith}
 use borrow.Author.Needs.{needs}
@@ -8,9 +8,9 @@ use Rattle.plan_sheet.specs.declared.Refusal.the-variants as why
 use Rattle.plan_sheet.specs.Told.{numberOf}
 use Rattle.sheet_calls.specs.Answers as text
 use Rattle.sheet_text.proofs.Digits.{then-stored, room-kept}
-use Prim.Native.Nat.{ℕ, _<_}
-use Rattle.sheet_answers.proofs.put_refused.Statement.{statement}
-use Rattle.sheet_answers.proofs.put_refused.Tie as tie
+use Prim.Native.Nat.{_<_}
+use Rattle.refusal_lines.proofs.put_refused.Statement.{statement}
+use Rattle.refusal_lines.proofs.put_refused.Tie as tie
 
 small : (w : Refusal) → numberOf w < 10000
 small why.TooLong = omega arith
