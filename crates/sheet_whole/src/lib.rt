@@ -3,8 +3,7 @@ ghost use mathlib.Core.Path.{_≡_};
 ghost use Prim.Native.Nat.{_≤_};
 ghost use lib.ListN.{length, drop};
 ghost use Rattle.plan_sheet.specs.Sheet as spec;
-ghost use Rattle.plan_sheet.specs.Told.{numberOf, rowsOf, told, fromClips, fromTaps};
-use plan_sheet::Answer;
+ghost use Rattle.plan_sheet.specs.Told.{rowsOf, told, fromClips};
 use plan_sheet::Kind;
 use plan_sheet::Lines;
 use plan_sheet::Parsed;
@@ -20,52 +19,6 @@ fn left(s: &[u8], at: usize) -> usize
     s.len() - at
 }
 
-fn refused(why: Refusal, line: usize) -> Parsed
-    ensures { λ r. ⌜ told r ≡ spec.refused (numberOf why) line ⌝ }
-{
-    Parsed {
-        answer: Answer::Refused(why, line),
-        places: [0i64; 2816],
-        placed: 0,
-        clips: [0i64; 1536],
-        clipped: 0,
-        taps: [0i64; 3000],
-        tapped: 0,
-    }
-}
-
-// The taps and the end, behind n places and m clips.
-fn from_taps(
-    s: &[u8],
-    at: usize,
-    places: [i64; 2816],
-    n: usize,
-    clips: [i64; 1536],
-    m: usize,
-) -> Parsed
-    requires { ⌜ (n ≤ 256) × (m ≤ 256) ⌝ }
-    ensures { λ r. ⌜ told r ≡ fromTaps (rowsOf 11 n places) (rowsOf 6 m clips) (drop at (now (s .entry))) ⌝ }
-{
-    let mut taps = [0i64; 3000];
-    match sheet_sections::counted(s, at, Kind::Tap, 1000, 3 + (n + m), &mut taps) {
-        Lines::Stopped(why, l) => refused(why, l),
-        Lines::Ended(k, next) => {
-            if next < s.len() {
-                return refused(Refusal::Trailing, 4 + (n + m) + k);
-            }
-            Parsed {
-                answer: Answer::Sheet,
-                places,
-                placed: n,
-                clips,
-                clipped: m,
-                taps,
-                tapped: k,
-            }
-        }
-    }
-}
-
 // The clips and what follows, behind n places.
 fn from_clips(s: &[u8], at: usize, places: [i64; 2816], n: usize) -> Parsed
     requires { ⌜ n ≤ 256 ⌝ }
@@ -74,8 +27,8 @@ fn from_clips(s: &[u8], at: usize, places: [i64; 2816], n: usize) -> Parsed
     let mut clips = [0i64; 1536];
     let most = n as u32;
     match sheet_sections::counted(s, at, Kind::Clip(most), most, 2 + n, &mut clips) {
-        Lines::Stopped(why, l) => refused(why, l),
-        Lines::Ended(m, next) => from_taps(s, next, places, n, clips, m),
+        Lines::Stopped(why, l) => sheet_ends::refused(why, l),
+        Lines::Ended(m, next) => sheet_ends::from_taps(s, next, places, n, clips, m),
     }
 }
 
@@ -84,11 +37,11 @@ pub fn sheet_at(s: &[u8], at: usize) -> Parsed
     ensures { λ r. ⌜ told r ≡ spec.readSheet (drop at (now (s .entry))) ⌝ }
 {
     if left(s, at) > 65_536 {
-        return refused(Refusal::TooLong, 0);
+        return sheet_ends::refused(Refusal::TooLong, 0);
     }
     let mut places = [0i64; 2816];
     match sheet_sections::counted(s, at, Kind::Place, 256, 1, &mut places) {
-        Lines::Stopped(why, l) => refused(why, l),
+        Lines::Stopped(why, l) => sheet_ends::refused(why, l),
         Lines::Ended(n, next) => from_clips(s, next, places, n),
     }
 }

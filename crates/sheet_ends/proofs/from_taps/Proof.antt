@@ -1,15 +1,15 @@
--- `sheet_whole::from_taps` meets its contract: the section, then the end.
+-- `sheet_ends::from_taps` meets its contract: the section, then the end.
 -- Assumes nothing.
 use lib.ListN.{drop}
 use mathlib.Core.Path.{_∙_}
 use Rattle.plan_sheet.specs.Told.{numberOf, rowsOf}
 use Rattle.plan_sheet.proofs.Tables.{rows-length}
-use Rattle.sheet_whole.proofs.Whole.{at-end, before-end, taps-stop, taps-go}
+use Rattle.sheet_ends.proofs.Ends.{at-end, before-end, taps-stop, taps-go}
 use Prim.Native.Nat.{_+_, _-_, _≤_}
 use native.Mathlib.Omega.{arith}
 use borrow.Author.Needs.{needs}
-use Rattle.sheet_whole.proofs.from_taps.Statement.{statement}
-use Rattle.sheet_whole.proofs.from_taps.Tie as tie
+use Rattle.sheet_ends.proofs.from_taps.Statement.{statement}
+use Rattle.sheet_ends.proofs.from_taps.Tie as tie
 
 add-counted : tie.Need-add-counted
 add-counted c = search needs
