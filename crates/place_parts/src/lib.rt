@@ -16,7 +16,7 @@ fn is_place(place: i64, k: usize) -> bool
     requires { ⌜ k ≤ 256 ⌝ }
     ensures { λ r. ⌜ r ≡ call.equal place (pos k) ⌝ }
 {
-    sheet_nodes::equal(place, k as i64)
+    sheet_numbers::equal(place, k as i64)
 }
 
 // Inner: the clip of place k: that of its line, if there is one.
@@ -26,9 +26,9 @@ pub fn clip_for(clips: &[i64; 1536], m: usize, k: usize) -> Clip
 {
     let mut i = 0;
     while i < m {
-        let c = sheet_rows::clip_at(clips, i);
+        let c = clip_rows::clip_at(clips, i);
         if is_place(c.place, k) {
-            return sheet_nodes::clip_on(c);
+            return sheet_clips::clip_on(c);
         }
         i += 1;
     }

@@ -14,9 +14,9 @@ pub fn put_taps(t: Tree, taps: &[i64; 3000], n: usize, at: usize, room: &mut [u8
     let mut next = at;
     let mut i = 0;
     while i < n {
-        let p = sheet_rows::tap_at(taps, i);
-        let asked = sheet_nodes::asked_of(p);
-        let point = sheet_nodes::point_of(p);
+        let p = tap_rows::tap_at(taps, i);
+        let asked = tap_points::asked_of(p);
+        let point = tap_points::point_of(p);
         let best = tree_taps::strongest(
             &t.index.backend.present,
             &t.index.backend.boxes,

@@ -2,7 +2,7 @@
 use native.Mathlib.Omega.{arith}
 use lib.IntN.{pos}
 use mir.Facts.{toZ-ofZ}
-use Rattle.sheet_nodes.proofs.Signed.{back}
+use Rattle.sheet_numbers.proofs.Signed.{back}
 use Rattle.place_parts.proofs.is_place.Statement.{statement}
 use Rattle.place_parts.proofs.is_place.Tie as tie
 

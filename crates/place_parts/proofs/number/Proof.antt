@@ -1,6 +1,6 @@
 -- `place_parts::number` meets its contract. Assumes nothing.
 use native.Mathlib.Omega.{arith}
-use Rattle.sheet_nodes.proofs.Signed.{back, to-word}
+use Rattle.sheet_numbers.proofs.Signed.{back, to-word}
 use Rattle.place_parts.proofs.number.Statement.{statement}
 use Rattle.place_parts.proofs.number.Tie as tie
 

@@ -3,7 +3,7 @@ use mathlib.Core.Path.{ap, _∙_}
 use native.Mathlib.Omega.{arith}
 use lib.IntN.{natAbs}
 use Rattle.sheet_calls.specs.Calls.{parentAt}
-use Rattle.sheet_nodes.proofs.Signed.{back, word-near}
+use Rattle.sheet_numbers.proofs.Signed.{back, word-near}
 use Rattle.place_parts.proofs.parent_in.Statement.{statement}
 use Rattle.place_parts.proofs.parent_in.Tie as tie
 

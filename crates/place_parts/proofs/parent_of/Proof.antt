@@ -4,7 +4,7 @@ use native.Mathlib.Omega.{arith}
 use borrow.Author.Needs.{needs}
 use lib.IntN.{natAbs, pos}
 use Rattle.sheet_calls.specs.Calls.{parentAt}
-use Rattle.sheet_nodes.proofs.Signed.{back, word-near}
+use Rattle.sheet_numbers.proofs.Signed.{back, word-near}
 use Rattle.place_parts.proofs.Parents.{no-parent, some-parent}
 use Rattle.place_parts.proofs.parent_of.Statement.{statement}
 use Rattle.place_parts.proofs.parent_of.Tie as tie
