@@ -1,16 +1,18 @@
--- Rows in a table: their number, one more of them, the rows before it. Assumes nothing.
+-- Rows in a table: their number, one more of them, the rows before it, a row's numbers. Assumes nothing.
 use mathlib.Core.Path.{_≡_, refl, sym, ap, _∙_}
 use mathlib.Core.Bool.{Bool, true, false, _&&_, _||_}
 use mathlib.Core.List.{List, [], _∷_, _++_, append-assoc}
 use Prim.Native.Nat.{ℕ, zero, suc, _+_, _*_, _-_, _≤_, _<_}
 use native.Mathlib.Nat.{suc-mul}
 use native.Mathlib.Omega.{arith}
+use borrow.Author.Tests.{ltb-true}
+use lib.Dec.{ltb}
 use lib.IntN.{ℤ, pos}
 use lib.Signed.{leZ}
 use lib.ListN.{length, getD, take, drop}
 use lib.Seq.{take-take, drop-drop, take-at, drop-at, length-take-le, getD-drop, getD-take, paste, take-nil}
 use Rattle.plan_sheet.specs.Sheet.{clipOf, clippedBefore}
-use Rattle.plan_sheet.specs.Told.{rowsOf}
+use Rattle.plan_sheet.specs.Told.{rowsOf, rowAt}
 
 drop-take : (w m : ℕ) (t : List ℤ) → drop w (take (w + m) t) ≡ take m (drop w t)
 drop-take zero m t = let e : 0 + m ≡ m = omega arith in rw e
@@ -97,3 +99,23 @@ module _ (t : List ℤ) (n i : ℕ) (k : ℤ) where
 
 pub from-first : (t : List ℤ) (n : ℕ) (k : ℤ) → clippedFrom t n 0 k ≡ clippedBefore (rowsOf 6 n t) k
 from-first t n k = let e : n - 0 ≡ n = omega arith in rw e
+
+-- ---- a row, and its numbers
+
+-- a row of the rows that are read
+pub row-at : (w n i : ℕ) (t : List ℤ) → i < n → getD (rowsOf w n t) i [] ≡ rowAt w i t
+unfolding rowsOf
+row-at w zero i t h = absurd (omega arith)
+row-at w (suc n) zero t h = let e : 0 * w ≡ 0 = omega arith in rw e
+row-at w (suc n) (suc i) t h =
+    let e : suc i * w ≡ i * w + w = suc-mul i w in
+    let f : suc i * w ≡ w + i * w = omega arith in
+    let g : i < n = omega arith in
+    row-at w n i (drop w t) g ∙ ap (take w) (drop-drop (i * w) w t ∙ ap (λ j. drop j t) (sym f))
+
+-- a number of a row
+pub cell : (w i k : ℕ) (t : List ℤ) → ltb k w ≡ true → getD (rowAt w i t) k (pos 0) ≡ getD t (i * w + k) (pos 0)
+cell w i k t h = getD-take w (drop (i * w) t) k (pos 0) (ltb-true k w h) ∙ getD-drop (i * w) t k (pos 0)
+
+pub cell-0 : (w i : ℕ) (t : List ℤ) → ltb 0 w ≡ true → getD (rowAt w i t) 0 (pos 0) ≡ getD t (i * w) (pos 0)
+cell-0 w i t h = let e : i * w + 0 ≡ i * w = omega arith in cell w i 0 t h ∙ ap (λ j. getD t j (pos 0)) e

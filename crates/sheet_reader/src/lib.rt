@@ -31,7 +31,7 @@ pub fn line<'a>(r: Reader<'a>, width: usize) -> LineRow
 pub fn sheet<'a>(r: Reader<'a>) -> Parsed
     ensures { λ p. ⌜ told p ≡ readSheet (drop (r .entry .at) (now (r .entry .src))) ⌝ }
 {
-    plan_sheet::sheet_at(r.src, r.at)
+    sheet_whole::sheet_at(r.src, r.at)
 }
 
 // The sheet that some bytes are.

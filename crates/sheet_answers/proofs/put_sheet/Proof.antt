@@ -1,18 +1,17 @@
 -- `sheet_answers::put_sheet` meets its contract. Assumes nothing.
-use mathlib.Core.Path.{_≡_, refl, sym, ap, _∙_, subst}
-use mathlib.Core.List.{List, [], _∷_, _++_}
-use Prim.Native.Nat.{ℕ, _+_, _≤_, _<_}
+use mathlib.Core.Path.{_≡_, refl, sym, _∙_, subst}
+use mathlib.Core.List.{[], _∷_}
 use native.Mathlib.Omega.{arith}
 use borrow.Author.Needs.{needs}
-use lib.ListN.{length}
 use Rattle.tree_state.specs.declared.Tree.{Tree}
 use Rattle.plan_sheet.specs.Told.{rowsOf}
-use Rattle.sheet_calls.specs.Answers.{lineOf, sheetText}
+use Rattle.sheet_calls.specs.Answers.{lineOf}
 use Rattle.sheet_laws.specs.Built.{treeOf}
 use Rattle.sheet_laws.proofs.Tables.{good-untapped, same-tree}
 use Rattle.sheet_text.specs.Text.{Stored}
 use Rattle.sheet_text.proofs.Digits.{then-stored, room-kept}
-use Rattle.sheet_answers.specs.Text.{sheetOf, tapText, AllReady}
+use Rattle.tap_lines.specs.Lines.{tapText, AllReady}
+use Rattle.sheet_answers.specs.Text.{sheetOf}
 use Rattle.sheet_answers.proofs.Lines.{sheet-text, few-taps, short-count, taps-ready}
 use Rattle.sheet_answers.proofs.put_sheet.Statement.{statement}
 use Rattle.sheet_answers.proofs.put_sheet.Tie as tie

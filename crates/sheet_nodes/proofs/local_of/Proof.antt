@@ -7,8 +7,8 @@ use mir.Val.{toZ, ofZ}
 use Rattle.sheet_calls.specs.Calls as call
 use Rattle.sheet_calls.specs.Good.{Small}
 use Rattle.sheet_calls.proofs.Finite.{PlaceRanges, place-ranges, orientation-small}
-use Rattle.sheet_nodes.specs.Nodes as spec
-use Rattle.sheet_nodes.proofs.Signed.{near, back, byte-near, level-near, level-same, word-same}
+use Rattle.orientations.specs.Turns as spec
+use Rattle.sheet_numbers.proofs.Signed.{near, back, byte-near, level-near, level-same, word-same}
 use Rattle.sheet_nodes.proofs.local_of.Statement.{statement}
 use Rattle.sheet_nodes.proofs.local_of.Tie as tie
 

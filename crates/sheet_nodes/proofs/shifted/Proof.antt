@@ -1,6 +1,6 @@
 -- `sheet_nodes::shifted` meets its contract. Assumes nothing.
 use native.Mathlib.Omega.{arith}
-use Rattle.sheet_nodes.proofs.Signed.{near, back}
+use Rattle.sheet_numbers.proofs.Signed.{near, back}
 use Rattle.sheet_nodes.proofs.shifted.Statement.{statement}
 use Rattle.sheet_nodes.proofs.shifted.Tie as tie
 

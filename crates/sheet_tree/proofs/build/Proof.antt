@@ -6,8 +6,8 @@ use Rattle.tree_state.specs.declared.Tree.{Tree}
 use Rattle.tree_state.specs.Sound.{soundTree}
 use Rattle.tree_steps.specs.Commit.{commitTree}
 use Rattle.sheet_laws.proofs.Tree.{sound-up-to}
-use Rattle.sheet_tree.specs.Rows.{sheetOf}
-use Rattle.sheet_tree.proofs.Steps.{committed}
+use Rattle.sheet_places.specs.Rows.{sheetOf}
+use Rattle.sheet_tree.proofs.Last.{committed}
 use Rattle.sheet_tree.proofs.build.Statement.{statement}
 use Rattle.sheet_tree.proofs.build.Tie as tie
 

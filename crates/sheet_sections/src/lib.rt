@@ -1,0 +1,97 @@
+// The sections of a sheet: a count, and as many lines of one kind.
+ghost use mathlib.Core.Path.{_≡_};
+ghost use mathlib.Core.List.{[]};
+ghost use Prim.Native.Nat.{_+_, _*_, _≤_};
+ghost use lib.ListN.{length, drop};
+ghost use lib.Seq.{paste};
+ghost use Rattle.plan_sheet.specs.Sheet as spec;
+ghost use Rattle.plan_sheet.specs.Told.{ruleOf, boundOf, toldLines, toldCount, countOf};
+use plan_sheet::Kind;
+use plan_sheet::Lines;
+use plan_sheet::Refusal;
+
+fn width_of(kind: Kind) -> usize
+    ensures { λ r. ⌜ (r ≡ ruleOf kind .width) × (r ≤ 11) ⌝ }
+{
+    match kind {
+        Kind::Count(_) => 1,
+        Kind::Place => 11,
+        Kind::Clip(_) => 6,
+        Kind::Tap => 3,
+    }
+}
+
+// The first `width` numbers of a row, stored from `at` on.
+fn put_row(table: &mut [i64], at: usize, width: usize, row: &[i64; 11])
+    requires { ⌜ (width ≤ 11) × (at ≤ 11000) × (at + width ≤ length (now table)) × (length (now row) ≡ 11) ⌝ }
+    ensures { λ _. ⌜ now (table .exit) ≡ paste (now (table .entry)) at (now (row .entry)) width ⌝ }
+{
+    let mut j = 0;
+    while j < width {
+        let z = row[j];
+        table[at + j] = z;
+        j += 1;
+    }
+}
+
+// n lines of one kind, the first of them the line `line`, from a position on; a table takes their numbers.
+fn read_section(
+    s: &[u8],
+    from: usize,
+    kind: Kind,
+    n: usize,
+    line: usize,
+    table: &mut [i64],
+) -> Lines
+    requires { ⌜ (n ≤ 1000) × (line ≤ 3000) × (boundOf kind ≤ 1000) × (n * (ruleOf kind .width) ≤ length (now table)) ⌝ }
+    ensures { λ r. ⌜ (toldLines (ruleOf kind .width) (now (table .exit)) (now (s .entry)) r ≡ spec.section (ruleOf kind) n [] line (drop from (now (s .entry)))) × (countOf r ≤ n) ⌝ }
+{
+    let width = width_of(kind);
+    let mut at = from;
+    let mut i = 0;
+    while i < n {
+        let f = sheet_lines::fields_at(s, at, width);
+        if !f.good {
+            return Lines::Stopped(Refusal::Malformed, line + i);
+        }
+        let row = f.row;
+        if !row_ranges::in_range(kind, &row) {
+            return Lines::Stopped(Refusal::OutOfRange, line + i);
+        }
+        if !row_places::fits_before(kind, table, i, &row) {
+            return Lines::Stopped(Refusal::BadPlace, line + i);
+        }
+        put_row(table, i * width, width, &row);
+        at = f.next;
+        i += 1;
+    }
+    Lines::Ended(n, at)
+}
+
+// A count: a line with one number, from 0 to `most`.
+fn read_count(s: &[u8], at: usize, most: u32, line: usize) -> Lines
+    requires { ⌜ most ≤ 1000 ⌝ }
+    ensures { λ r. ⌜ (toldCount (now (s .entry)) r ≡ spec.section (spec.countRule most) 1 [] line (drop at (now (s .entry)))) × (countOf r ≤ most) ⌝ }
+{
+    let f = sheet_lines::fields_at(s, at, 1);
+    if !f.good {
+        return Lines::Stopped(Refusal::Malformed, line);
+    }
+    let row = f.row;
+    if !row_ranges::count_in_range(most, &row) {
+        return Lines::Stopped(Refusal::OutOfRange, line);
+    }
+    let z = row[0];
+    Lines::Ended(z as usize, f.next)
+}
+
+// Inner: a count, and as many lines of one kind.
+pub fn counted(s: &[u8], at: usize, kind: Kind, most: u32, line: usize, table: &mut [i64]) -> Lines
+    requires { ⌜ (most ≤ 1000) × (line ≤ 2000) × (boundOf kind ≤ 1000) × (most * (ruleOf kind .width) ≤ length (now table)) ⌝ }
+    ensures { λ r. ⌜ (toldLines (ruleOf kind .width) (now (table .exit)) (now (s .entry)) r ≡ spec.counted (ruleOf kind) most line (drop at (now (s .entry)))) × (countOf r ≤ most) ⌝ }
+{
+    match read_count(s, at, most, line) {
+        Lines::Stopped(why, l) => Lines::Stopped(why, l),
+        Lines::Ended(n, next) => read_section(s, next, kind, n, line + 1, table),
+    }
+}
