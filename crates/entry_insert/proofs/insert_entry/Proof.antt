@@ -1,8 +1,8 @@
 use native.Mathlib.Omega.{arith}
 use borrow.Author.Needs.{needs}
-use Rattle.index_entries.proofs.Slots.{slot-unused}
-use Rattle.index_entries.proofs.insert_entry.Statement.{statement}
-use Rattle.index_entries.proofs.insert_entry.Tie as tie
+use Rattle.entry_slots.proofs.Slots.{slot-unused}
+use Rattle.entry_insert.proofs.insert_entry.Statement.{statement}
+use Rattle.entry_insert.proofs.insert_entry.Tie as tie
 
 next-slot-requires : tie.Need-next-slot-requires
 next-slot-requires c κs = search needs

@@ -1,8 +1,8 @@
 use borrow.Author.Tests.{lt-ltb, le-ltb}
 use borrow.Author.Needs.{needs}
-use Rattle.index_entries.specs.Entries.{lookUp}
-use Rattle.index_entries.proofs.look_up.Statement.{statement}
-use Rattle.index_entries.proofs.look_up.Tie as tie
+use Rattle.entry_reads.specs.Reads.{lookUp}
+use Rattle.entry_reads.proofs.look_up.Statement.{statement}
+use Rattle.entry_reads.proofs.look_up.Tie as tie
 
 returns : tie.Need-returns
 unfolding lookUp

@@ -1,7 +1,7 @@
 use borrow.Author.Tests.{eq-eqb, ne-eqb}
-use Rattle.index_entries.specs.Entries.{markOf}
-use Rattle.index_entries.proofs.mark_of.Statement.{statement}
-use Rattle.index_entries.proofs.mark_of.Tie as tie
+use Rattle.entry_reads.specs.Reads.{markOf}
+use Rattle.entry_reads.proofs.mark_of.Statement.{statement}
+use Rattle.entry_reads.proofs.mark_of.Tie as tie
 
 returns : tie.Need-returns
 unfolding markOf

@@ -1,9 +1,9 @@
 use lib.ListN.{getD}
 use borrow.Author.Tests.{eq-eqb, ne-eqb}
 use borrow.Author.Needs.{needs}
-use Rattle.index_entries.specs.Entries.{previousAt}
-use Rattle.index_entries.proofs.previous_at.Statement.{statement}
-use Rattle.index_entries.proofs.previous_at.Tie as tie
+use Rattle.entry_reads.specs.Reads.{previousAt}
+use Rattle.entry_reads.proofs.previous_at.Statement.{statement}
+use Rattle.entry_reads.proofs.previous_at.Tie as tie
 
 element-copy-out-if1 : tie.Need-element-copy-out-if1
 element-copy-out-if1 c = search needs

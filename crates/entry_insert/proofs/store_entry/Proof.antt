@@ -1,7 +1,7 @@
 use mathlib.Core.Path.{refl}
 use borrow.Author.Needs.{needs}
-use Rattle.index_entries.proofs.store_entry.Statement.{statement}
-use Rattle.index_entries.proofs.store_entry.Tie as tie
+use Rattle.entry_insert.proofs.store_entry.Statement.{statement}
+use Rattle.entry_insert.proofs.store_entry.Tie as tie
 
 cast-x : tie.Need-cast-x
 cast-x c = search needs
