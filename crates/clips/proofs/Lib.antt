@@ -1,4 +1,3 @@
 pub mod Construct
 pub mod Equality
-mod Examples
 pub mod Constructed

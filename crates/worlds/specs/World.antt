@@ -5,7 +5,8 @@ use Rattle.geometry.specs.declared.rect.Rect.{Rect}
 use Rattle.geometry.specs.declared.insets.Insets.{Insets}
 use Rattle.geometry.specs.Rectangle.{intersection, contains, plusInsets, noInsets}
 use Rattle.transforms.specs.declared.affine.Affine.{Affine}
-use Rattle.transforms.specs.Transform.{identity, mapped, product, transformRectBbox}
+use Rattle.transforms.specs.Transform.{identity, mapped, product}
+use Rattle.transform_boxes.specs.Bbox.{transformRectBbox}
 use Rattle.clips.specs.declared.clip.Clip.{Clip}
 use Rattle.clips.specs.declared.clip.ClipRect.{ClipRect}
 use Rattle.clips.specs.declared.clip.ClipRect.the-variants as of

@@ -1,7 +1,7 @@
 use borrow.Author.Needs.{needs}
-use Rattle.transforms.specs.Transform.{transformRectBbox}
-use Rattle.transforms.proofs.util.transform_rect_bbox.Statement.{statement}
-use Rattle.transforms.proofs.util.transform_rect_bbox.Tie as tie
+use Rattle.transform_boxes.specs.Bbox.{transformRectBbox}
+use Rattle.transform_boxes.proofs.transform_rect_bbox.Statement.{statement}
+use Rattle.transform_boxes.proofs.transform_rect_bbox.Tie as tie
 
 min-requires : tie.Need-min-requires
 min-requires c κs = search needs

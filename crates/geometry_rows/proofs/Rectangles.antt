@@ -1,12 +1,12 @@
--- Worked rows of the definitions, each by computation.
+-- Worked rows of rectangles, each by computation.
 use mathlib.Core.Path.{_≡_, refl}
 use mathlib.Core.Bool.{Bool, true, false, not}
 use Prim.Native.Nat.{ℕ}
 use lib.Ieee.{Float, nan, inf, binary64, round, units, odd, size, span, climb, add, sub, sum, neg, lt, le, eq, isNan}
 use Rattle.numbers.specs.Number.{minimum, maximum}
 use Rattle.geometry.specs.declared.point.Point.{Point}
 use Rattle.geometry.specs.declared.insets.Insets.{Insets}
 use Rattle.geometry.specs.Rectangle.{rect, ordered, intersection, contains, plusInsets, hasArea}
 
 -- the whole number k
 num : ℕ → Float

@@ -1,4 +1,4 @@
--- Worked rows of the definitions, each by computation.
+-- Worked rows of transforms, each by computation.
 use mathlib.Core.Path.{_≡_, refl}
 use mathlib.Core.Bool.{Bool, true, false, not}
 use Prim.Native.Nat.{ℕ}
@@ -6,8 +6,9 @@ use lib.Ieee.{Float, nan, inf, binary64, round, units, odd, size, span, climb, a
 use Rattle.numbers.specs.Number.{minimum, maximum}
 use Rattle.geometry.specs.declared.point.Point.{Point}
 use Rattle.geometry.specs.Rectangle.{rect}
 use Rattle.transforms.specs.declared.affine.Affine.{Affine}
-use Rattle.transforms.specs.Transform.{identity, product, inverse, mapped, transformRectBbox}
+use Rattle.transforms.specs.Transform.{identity, product, inverse, mapped}
+use Rattle.transform_boxes.specs.Bbox.{transformRectBbox}
 
 -- the whole number k
 num : ℕ → Float

@@ -1,4 +1,4 @@
--- Worked rows of the definitions, each by computation.
+-- Worked rows of clips, each by computation.
 use mathlib.Core.Path.{_≡_, refl}
 use mathlib.Core.Bool.{Bool, true, false, not}
 use Prim.Native.Nat.{ℕ}

@@ -1,10 +1,10 @@
 // The box tree's util.rs, but for `rect_to_aabb`, which stands with the index's boxes.
 ghost use mathlib.Core.Path.{_≡_};
-ghost use Rattle.transforms.specs.Transform.{transformRectBbox};
-use crate::affine::Affine;
+ghost use Rattle.transform_boxes.specs.Bbox.{transformRectBbox};
 use geometry::rect::Rect;
 use numbers::max;
 use numbers::min;
+use transforms::affine::Affine;
 
 // The axis-aligned box of the image of `rect`.
 pub fn transform_rect_bbox(affine: Affine, rect: Rect) -> Rect
