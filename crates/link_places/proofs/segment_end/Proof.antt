@@ -4,9 +4,9 @@ use native.Mathlib.Omega.{arith}
 use lib.ListN.{length, take, drop, getD}
 use borrow.Author.Needs.{needs}
 use Rattle.forest.specs.Table.{run}
-use Rattle.links.proofs.Steps.{run-on, run-stop, run-end, seg-from}
-use Rattle.links.proofs.segment_end.Statement.{statement}
-use Rattle.links.proofs.segment_end.Tie as tie
+use Rattle.link_places.proofs.Places.{run-on, run-stop, run-end, seg-from}
+use Rattle.link_places.proofs.segment_end.Statement.{statement}
+use Rattle.link_places.proofs.segment_end.Tie as tie
 
 abbrev Inv-loop : tie.InvT-loop
 Inv-loop depth n at d e₀ e = (at < e) × (e ≤ n) × (at + 1 + run d (drop (at + 1) (take n depth)) ≡ e + run d (drop e (take n depth)))

@@ -4,9 +4,9 @@ use native.Mathlib.Omega.{arith}
 use lib.ListN.{length, take, drop}
 use borrow.Author.Needs.{needs}
 use Rattle.forest.specs.Table.{indexOf}
-use Rattle.links.proofs.Steps.{idx-on, idx-stop, idx-end}
-use Rattle.links.proofs.position.Statement.{statement}
-use Rattle.links.proofs.position.Tie as tie
+use Rattle.link_places.proofs.Places.{idx-on, idx-stop, idx-end}
+use Rattle.link_places.proofs.position.Statement.{statement}
+use Rattle.link_places.proofs.position.Tie as tie
 
 abbrev Inv-loop : tie.InvT-loop
 Inv-loop order n x i₀ i = (i ≤ n) × (indexOf x (take n order) ≡ i + indexOf x (drop i (take n order)))
