@@ -1,3 +1,2 @@
 pub mod Construct
 pub mod Equality
-pub mod Constructed

@@ -4,7 +4,7 @@ use mathlib.Core.Bool.{Bool, true, false, not}
 use Prim.Native.Nat.{ℕ}
 use lib.Ieee.{Float, nan, inf, binary64, ofBits, ofFields, round, units, odd, size, span, climb, add, sub, mul, div, sum, neg, lt, le, eq, isNan}
 use Rattle.numbers.specs.Number.{minimum, maximum, magnitude}
-use Rattle.geometry.specs.declared.point.Point.{Point}
+use Rattle.geometry_parts.specs.declared.point.Point.{Point}
 use Rattle.geometry.specs.Rectangle.{ordered, rectEq}
 use Rattle.clips.specs.declared.clip.Clip.the-variants.{None, Square, Rounded}
 use Rattle.clips.specs.Clips.{clipRect, clipRadii, fitted, shaped, constructed, quadrant, excess, insideRounded, inside, clipRectEq, clipEq}

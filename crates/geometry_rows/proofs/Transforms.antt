@@ -4,7 +4,7 @@ use mathlib.Core.Bool.{Bool, true, false, not}
 use Prim.Native.Nat.{ℕ}
 use lib.Ieee.{Float, nan, inf, binary64, round, units, odd, size, span, climb, add, sub, mul, div, sum, neg, lt, isNan}
 use Rattle.numbers.specs.Number.{minimum, maximum}
-use Rattle.geometry.specs.declared.point.Point.{Point}
+use Rattle.geometry_parts.specs.declared.point.Point.{Point}
 use Rattle.geometry.specs.Rectangle.{rect}
 use Rattle.transforms.specs.declared.affine.Affine.{Affine}
 use Rattle.transforms.specs.Transform.{identity, product, inverse, mapped}

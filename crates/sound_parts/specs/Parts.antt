@@ -7,7 +7,8 @@ use lib.ListN.{getD}
 use lib.Ieee.{Float}
 use Rattle.geometry.specs.Rectangle.{rectEq, finiteRect, finiteInsets}
 use Rattle.transforms.specs.Transform.{finiteAffine}
-use Rattle.clips.specs.Clips.{finiteClip, asConstructed}
+use Rattle.clips.specs.Clips.{finiteClip}
+use Rattle.constructed_clips.specs.Constructed.{asConstructed}
 use Rattle.boxes.specs.declared.NodeId.{NodeId}
 use Rattle.boxes.specs.declared.Key.{Key}
 use Rattle.cells.specs.Cells.{idAt}

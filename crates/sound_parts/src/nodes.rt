@@ -8,6 +8,7 @@ ghost use Rattle.sound_parts.specs.Parts.{Low, valuesAt, marksAt, ownsAt
 use boxes::Key;
 use boxes::NodeId;
 use cells::id_at;
+use constructed_clips::is_constructed;
 use geometry::rect::Rect;
 use node_tables::affine_at;
 use node_tables::clip_at;
@@ -34,7 +35,7 @@ fn value_right<'a>(
     b.is_finite()
         & s.is_finite()
         & (t.is_finite() & c.is_finite())
-        & ((flags[x] < 8) & c.is_constructed())
+        & ((flags[x] < 8) & is_constructed(c))
 }
 
 // Inner: each has values that pass 5 and 6, and its clip is as constructed.

@@ -8,7 +8,7 @@ use lib.ListN.{length, getD, take}
 use lib.IntN.{ℤ, pos}
 use lib.Signed.{ltZ, leZ}
 use lib.Ieee.{Float}
-use Rattle.geometry.specs.declared.point.Point.{Point}
+use Rattle.geometry_parts.specs.declared.point.Point.{Point}
 use Rattle.transforms.specs.Transform.{mapped, inverse}
 use Rattle.clips.specs.Clips.{inside}
 use Rattle.worlds.specs.World.{reached}

@@ -2,7 +2,7 @@
 use mathlib.Core.Bool.{Bool, _&&_}
 use lib.Ieee.{Float, neg, eq}
 use lib.Ieee.Scale.{finite}
-use Rattle.geometry.specs.declared.point.Point.{Point}
+use Rattle.geometry_parts.specs.declared.point.Point.{Point}
 use Rattle.transforms.specs.declared.affine.Affine.{Affine}
 use Rattle.numbers.specs.Rounded.{_⊕_, _⊖_, _⊗_, _⊘_, zero, one}
 

@@ -11,7 +11,8 @@ use Rattle.geometry.specs.Rectangle.{rect, hasArea, ordered, intersection, cont
 use Rattle.transforms.specs.Transform.{identity, mapped, product, inverse, affineEq, finiteAffine}
 use Rattle.transform_boxes.specs.Bbox.{transformRectBbox}
 use Rattle.clips.specs.declared.clip.Clip.the-variants as is
-use Rattle.clips.specs.Clips.{clipRect, clipRadii, fitted, shaped, constructed, quadrant, excess, insideRounded, inside, clipRectEq, clipEq, finiteClipRect, finiteClip, asConstructed}
+use Rattle.clips.specs.Clips.{clipRect, clipRadii, fitted, shaped, constructed, quadrant, excess, insideRounded, inside, clipRectEq, clipEq, finiteClipRect, finiteClip}
+use Rattle.constructed_clips.specs.Constructed.{asConstructed}
 use Rattle.boxes.specs.declared.NodeId.{NodeId}
 use Rattle.boxes.specs.Boxes.{aabbEq, containsPoint, overlaps}
 use Rattle.cells.specs.Cells.{boxAt, putBox, idAt, putId}
