@@ -8,8 +8,8 @@ ghost use Prim.Native.Nat.{_≤_, _<_};
 ghost use lib.ListN.{length, take};
 ghost use Rattle.forest.specs.Table.{depthsFrom, insertAll};
 ghost use Rattle.links.specs.Links as spec;
-pub use link_places::depths_ok;
-pub use link_places::parent_at;
+pub use link_depths::depths_ok;
+pub use link_depths::parent_at;
 pub use link_places::position;
 pub use link_places::segment_end;
 

@@ -11,7 +11,7 @@ use lib.Seq.{take-suc}
 use lib.Ieee.{Float}
 use Rattle.worlds.specs.World.{atRoot}
 use Rattle.forest.specs.Table.{lastAbove, lessDeep}
-use Rattle.link_places.proofs.Places.{parent-stop, parent-on}
+use Rattle.link_depths.proofs.Depths.{parent-stop, parent-on}
 use Rattle.tree_rework.specs.Rework.{stored, handed, above}
 
 -- one place more, the nearest first

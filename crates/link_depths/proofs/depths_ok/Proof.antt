@@ -4,9 +4,9 @@ use native.Mathlib.Omega.{arith}
 use lib.ListN.{length, take, drop}
 use borrow.Author.Needs.{needs}
 use Rattle.forest.specs.Table.{depthsFrom}
-use Rattle.link_places.proofs.Places.{shape-zero, shape-jump, shape-on, shape-end}
-use Rattle.link_places.proofs.depths_ok.Statement.{statement}
-use Rattle.link_places.proofs.depths_ok.Tie as tie
+use Rattle.link_depths.proofs.Depths.{shape-zero, shape-jump, shape-on, shape-end}
+use Rattle.link_depths.proofs.depths_ok.Statement.{statement}
+use Rattle.link_depths.proofs.depths_ok.Tie as tie
 
 abbrev Inv-loop : tie.InvT-loop
 Inv-loop depth n b₀ i₀ b i = (b ≤ i) × (i ≤ n) × (n ≤ 256) × (depthsFrom 0 (take n depth) ≡ depthsFrom b (drop i (take n depth)))

@@ -4,9 +4,9 @@ use native.Mathlib.Omega.{arith}
 use lib.ListN.{length, take, getD}
 use borrow.Author.Needs.{needs}
 use Rattle.forest.specs.Table.{lastAbove}
-use Rattle.link_places.proofs.Places.{parent-on, parent-stop}
-use Rattle.link_places.proofs.parent_at.Statement.{statement}
-use Rattle.link_places.proofs.parent_at.Tie as tie
+use Rattle.link_depths.proofs.Depths.{parent-on, parent-stop}
+use Rattle.link_depths.proofs.parent_at.Statement.{statement}
+use Rattle.link_depths.proofs.parent_at.Tie as tie
 
 abbrev Inv-loop : tie.InvT-loop
 Inv-loop order depth at root d j₀ j = (j ≤ at) × (at < 256) × (lastAbove d root (take at order) (take at depth) ≡ lastAbove d root (take j order) (take j depth))
