@@ -12,7 +12,7 @@ use lib.ListN.{length, getD, take}
 use lib.Seq.{take-suc}
 use Rattle.numbers.proofs.Bools.{and-left}
 use Rattle.geometry.specs.declared.rect.Rect.{Rect}
-use Rattle.geometry.specs.declared.insets.Insets.{Insets}
+use Rattle.geometry_parts.specs.declared.insets.Insets.{Insets}
 use Rattle.geometry.specs.Rectangle.{finiteRect, finiteInsets}
 use Rattle.transforms.specs.declared.affine.Affine.{Affine}
 use Rattle.transforms.specs.Transform.{finiteAffine}

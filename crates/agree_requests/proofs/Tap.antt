@@ -6,7 +6,7 @@ use Prim.Native.Nat.{ℕ}
 use native.Mathlib.Omega.{arith}
 use lib.Dec.{eqb, ltb}
 use lib.Signed.{ltZ}
-use Rattle.geometry.specs.declared.point.Point.{Point}
+use Rattle.geometry_parts.specs.declared.point.Point.{Point}
 use Rattle.counting.specs.Times.{times}
 use Rattle.counting.proofs.Counting.{hit, times-append}
 use Rattle.transforms.specs.Transform.{mapped, inverse}

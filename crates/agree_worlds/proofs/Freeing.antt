@@ -12,8 +12,8 @@ use Rattle.boxes.specs.declared.Aabb2D.{Aabb2D}
 use Rattle.cells.specs.Cells.{boxAt}
 use Rattle.counting.specs.Times.{times}
 use Rattle.counting.proofs.Counting.{hit, times-append}
-use Rattle.index_entries.specs.declared.Mark.{Mark}
-use Rattle.index_entries.specs.declared.Previous.{Previous}
+use Rattle.entry_reads.specs.declared.Mark.{Mark}
+use Rattle.entry_reads.specs.declared.Previous.{Previous}
 use Rattle.index_entries.specs.Entries.{previousAt}
 use Rattle.index_entries.proofs.Keep.{Kind, plain, new, moved, gone, kind}
 use Rattle.index_commit.specs.Commit.{Act, rests, adds, moves, drops, actOf, changeOf, freeStep, Work, work, workStep}

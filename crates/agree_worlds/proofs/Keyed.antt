@@ -23,8 +23,8 @@ use Rattle.box_types.specs.Local.{rectToAabb}
 use Rattle.node_tables.specs.Tables.{rectAt, putRect}
 use Rattle.node_tables.proofs.Laws.{rect-same, rect-other, rect-length}
 use Rattle.forest.specs.Forest.{Forest, has}
-use Rattle.index_entries.specs.declared.Mark.{Mark}
-use Rattle.index_entries.specs.declared.Mark.the-variants as is
+use Rattle.entry_reads.specs.declared.Mark.{Mark}
+use Rattle.entry_reads.specs.declared.Mark.the-variants as is
 use Rattle.index_entries.specs.Entries.{queueWith, unmarked, updatedMark}
 use Rattle.index_entries.proofs.Slots.{slot-unused}
 use Rattle.index_entries.proofs.Keep.{slot-empty, keep-insert, keep-update}

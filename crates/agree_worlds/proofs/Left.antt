@@ -16,8 +16,8 @@ use Rattle.cells.proofs.Laws.{box-other}
 use Rattle.counting.specs.Times.{times}
 use Rattle.box_types.specs.Local.{rectToAabb}
 use Rattle.forest.specs.Forest.{Forest, has}
-use Rattle.index_entries.specs.declared.Mark.{Mark}
-use Rattle.index_entries.specs.declared.Mark.the-variants as is
+use Rattle.entry_reads.specs.declared.Mark.{Mark}
+use Rattle.entry_reads.specs.declared.Mark.the-variants as is
 use Rattle.index_entries.specs.Entries.{updatedMark}
 use Rattle.index_entries.proofs.Slots.{slot-unused}
 use Rattle.index_entries.proofs.Keep.{slot-empty, Kind, plain, new, moved, gone, kind}

@@ -20,8 +20,8 @@ use Rattle.counting.specs.Times.{times}
 use Rattle.counting.proofs.Counting.{miss, times-append}
 use Rattle.box_types.specs.Local.{rectToAabb}
 use Rattle.forest.specs.Forest.{Forest, has}
-use Rattle.index_entries.specs.declared.Mark.{Mark}
-use Rattle.index_entries.specs.declared.Mark.the-variants as is
+use Rattle.entry_reads.specs.declared.Mark.{Mark}
+use Rattle.entry_reads.specs.declared.Mark.the-variants as is
 use Rattle.index_entries.specs.Entries.{stands, queueWith, lengthWith, slotFor, usedFor, unmarked, updatedMark}
 use Rattle.index_entries.proofs.Keep.{queue-stays, queue-grows, queue-room, queue-of}
 use Rattle.understory_index.specs.declared.Index.{Index}

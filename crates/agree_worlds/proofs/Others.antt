@@ -9,7 +9,7 @@ use lib.IntN.{ℤ}
 use lib.ListN.{length, getD, set, List·getD-eq-default, length-set}
 use lib.Seq.{getD-set-same, getD-set-other}
 use Rattle.geometry.specs.declared.rect.Rect.{Rect}
-use Rattle.geometry.specs.declared.insets.Insets.{Insets}
+use Rattle.geometry_parts.specs.declared.insets.Insets.{Insets}
 use Rattle.geometry.specs.Rectangle.{rectEq, insetsEq}
 use Rattle.transforms.specs.Transform.{affineEq}
 use Rattle.transforms.specs.declared.affine.Affine.{Affine}

@@ -20,8 +20,8 @@ use Rattle.cells.proofs.Laws.{id-same, id-other}
 use Rattle.box_types.specs.Local.{rectToAabb}
 use Rattle.forest.specs.Forest.{Forest, has}
 use Rattle.forest.proofs.Bools.{never}
-use Rattle.index_entries.specs.declared.Mark.{Mark}
-use Rattle.index_entries.specs.declared.Mark.the-variants as is
+use Rattle.entry_reads.specs.declared.Mark.{Mark}
+use Rattle.entry_reads.specs.declared.Mark.the-variants as is
 use Rattle.index_entries.specs.Entries.{updatedMark}
 use Rattle.index_entries.proofs.Keep.{Kind, plain, new, moved, gone, kind}
 use Rattle.index_commit.specs.Commit as commit

@@ -6,7 +6,7 @@ use lib.Bits.{bitAnd, bitOr}
 use lib.IntN.{ℤ, pos}
 use Rattle.numbers.specs.Rounded.{zero}
 use Rattle.geometry.specs.declared.rect.Rect.{Rect}
-use Rattle.geometry.specs.declared.insets.Insets.{Insets}
+use Rattle.geometry_parts.specs.declared.insets.Insets.{Insets}
 use Rattle.geometry.specs.Rectangle.{rect, finiteRect, finiteInsets}
 use Rattle.transforms.specs.declared.affine.Affine.{Affine}
 use Rattle.transforms.specs.Transform.{identity, finiteAffine}

@@ -14,8 +14,8 @@ use Rattle.geometry.proofs.Corners.{ordered-again, ordered-le, ordered-finite}
 use Rattle.radii.specs.declared.RoundedRectRadii.{RoundedRectRadii}
 use Rattle.clips.specs.declared.clip.Clip.{Clip}
 use Rattle.clips.specs.declared.clip.Clip.the-variants as is
-use Rattle.clips.specs.declared.clip.ClipRect.{ClipRect}
-use Rattle.clips.specs.declared.clip.ClipRect.the-variants as of
+use Rattle.clip_rects.specs.declared.ClipRect.{ClipRect}
+use Rattle.clip_rects.specs.declared.ClipRect.the-variants as of
 use Rattle.clips.specs.Clips.{radii, all, cap, fitted, square, rounded, shaped, constructed, clipRect, clipRadii, noRadii, constructedOf, finiteClipRect, finiteClip, zeroRadii, inOrder}
 
 -- ---- the cap and the radii

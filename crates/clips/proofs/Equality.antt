@@ -7,8 +7,8 @@ use Rattle.numbers.proofs.Order.{four-refl, four-sym}
 use Rattle.geometry.proofs.Records.{rect-refl, rect-sym}
 use Rattle.radii.specs.declared.RoundedRectRadii.{RoundedRectRadii}
 use Rattle.clips.specs.declared.clip.Clip.{Clip}
-use Rattle.clips.specs.declared.clip.ClipRect.{ClipRect}
-use Rattle.clips.specs.declared.clip.ClipRect.the-variants as of
+use Rattle.clip_rects.specs.declared.ClipRect.{ClipRect}
+use Rattle.clip_rects.specs.declared.ClipRect.the-variants as of
 use Rattle.clips.specs.Clips.{all, radiiEq, clipRect, clipRadii, clipRectEq, clipEq, finiteClipRect, finiteClip}
 
 pub radii-refl : (q : RoundedRectRadii) → all finite q ≡ true → radiiEq q q ≡ true

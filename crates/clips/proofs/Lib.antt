@@ -1,4 +1,2 @@
 pub mod Construct
 pub mod Equality
-mod Examples
-pub mod Constructed

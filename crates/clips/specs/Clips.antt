@@ -1,18 +1,19 @@
 -- Clips (document 01, module 2): none, square, or rounded with four radii, in the order top left, top right, bottom right, bottom
 -- left. A clip is read by its rectangle and its radii: "square means all radii 0". Below, `is.` marks the cases of `Clip`, and `of.` those of
 -- `ClipRect`, a clip's rectangle if there is a clip.
-use mathlib.Core.Bool.{Bool, true, false, not, _&&_, cond}
+use mathlib.Core.Bool.{Bool, true, false, _&&_, cond}
 use lib.Ieee.{le, eq}
 use lib.Ieee.Scale.{finite}
-use Rattle.geometry.specs.declared.point.Point.{Point}
+use Rattle.geometry_parts.specs.declared.point.Point.{Point}
 use Rattle.geometry.specs.declared.rect.Rect.{Rect}
 use Rattle.radii.specs.declared.RoundedRectRadii.{RoundedRectRadii}
 use Rattle.clips.specs.declared.clip.Clip.{Clip}
 use Rattle.clips.specs.declared.clip.Clip.the-variants as is
-use Rattle.clips.specs.declared.clip.ClipRect.{ClipRect}
-use Rattle.clips.specs.declared.clip.ClipRect.the-variants as of
+use Rattle.clip_rects.specs.declared.ClipRect.{ClipRect}
+use Rattle.clip_rects.specs.declared.ClipRect.the-variants as of
 use Rattle.numbers.specs.Rounded.{zero}
-use Rattle.geometry.specs.Rectangle.{rect, ordered, rectEq, finiteRect}
+use Rattle.geometry.specs.Rectangle.{rect, ordered}
+unfoldable pub use Rattle.clip_rects.specs.Rects.{clipRectEq, finiteClipRect}
 pub use Rattle.radii.specs.Radii.{radii, noRadii, each, all, radiiEq, cap}
 unfoldable pub use Rattle.radii.specs.Radii.{fitted, quadrant}
 pub use Rattle.rounded.specs.Rounded.{centre, insideCorner, insideAt, sameRect, sameRadii}
@@ -60,33 +61,13 @@ inside c p = insideOf (clipRect c) (clipRadii c) p
 
 -- ---- equality as numbers, of what is given: (10, 10, 0, 0) is not (0, 0, 10, 10)
 
-unfoldable pub clipRectEq : ClipRect → ClipRect → Bool
-clipRectEq of.None of.None = true
-clipRectEq of.None (of.Some s) = false
-clipRectEq (of.Some r) of.None = false
-clipRectEq (of.Some r) (of.Some s) = rectEq r s
-
 unfoldable pub clipEq : Clip → Clip → Bool
 clipEq c d = clipRectEq (clipRect c) (clipRect d) && radiiEq (clipRadii c) (clipRadii d)
 
 -- ---- finiteness of what the case carries, as handed over: what refusal 5 asks
 
-unfoldable pub finiteClipRect : ClipRect → Bool
-finiteClipRect of.None = true
-finiteClipRect (of.Some r) = finiteRect r
-
 unfoldable pub finiteClip : Clip → Bool
 finiteClip c = finiteClipRect (clipRect c) && all finite (clipRadii c)
-
--- ---- "clips are as constructed": the constructor leaves the clip as it is, to the bit
-
-unfoldable pub asConstructed : Clip → Bool
-asConstructed is.None = true
-asConstructed (is.Square x0 y0 x1 y1) = let r = rect x0 y0 x1 y1 in sameRect (ordered r) r
-asConstructed (is.Rounded x0 y0 x1 y1 tl tr br bl) =
-    let r = rect x0 y0 x1 y1 in
-    let q = radii tl tr br bl in
-    sameRect (ordered r) r && sameRadii (fitted r q) q && not (all (λ x. eq x zero) q)
 
 -- ---- what laws say of a constructed clip
 

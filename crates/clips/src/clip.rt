@@ -1,11 +1,10 @@
 // Clips, kurbo's rounded_rect.rs: where the box tree has an Option<RoundedRect>, a clip is none, square, or rounded.
 ghost use mathlib.Core.Path.{_≡_};
-ghost use Rattle.clips.specs.Clips.{inside, shaped, constructed, clipRect, clipRadii, clipRectEq, clipEq, finiteClipRect, finiteClip, asConstructed};
+ghost use Rattle.clips.specs.Clips.{inside, shaped, constructed, clipRect, clipRadii, clipEq, finiteClip};
+pub use clip_rects::ClipRect;
 use geometry::point::Point;
 use geometry::rect::Rect;
 use radii::RoundedRectRadii;
-use rounded::same_radii;
-use rounded::same_rect;
 use rounded::winding;
 
 pub enum Clip {
@@ -26,12 +25,6 @@ pub enum Clip {
         bottom_right: f64,
         bottom_left: f64,
     },
-}
-
-// A clip's rectangle, if there is a clip.
-pub enum ClipRect {
-    None,
-    Some(Rect),
 }
 
 // Square where all radii are 0.
@@ -55,33 +48,6 @@ fn shape(r: Rect, q: RoundedRectRadii) -> Clip
         top_right: q.top_right,
         bottom_right: q.bottom_right,
         bottom_left: q.bottom_left,
-    }
-}
-
-impl ClipRect {
-    // Equality as numbers.
-    pub fn eq(self, other: ClipRect) -> bool
-        ensures { λ b. ⌜ b ≡ clipRectEq self other ⌝ }
-    {
-        match self {
-            ClipRect::None => match other {
-                ClipRect::None => true,
-                ClipRect::Some(_) => false,
-            },
-            ClipRect::Some(r) => match other {
-                ClipRect::None => false,
-                ClipRect::Some(s) => r.eq(s),
-            },
-        }
-    }
-
-    pub fn is_finite(self) -> bool
-        ensures { λ b. ⌜ b ≡ finiteClipRect self ⌝ }
-    {
-        match self {
-            ClipRect::None => true,
-            ClipRect::Some(r) => r.is_finite(),
-        }
     }
 }
 
@@ -169,36 +135,5 @@ impl Clip {
         ensures { λ b. ⌜ b ≡ finiteClip self ⌝ }
     {
         self.rect().is_finite() & self.radii().is_finite()
-    }
-    // The constructor leaves it as it is, to the bit.
-    pub fn is_constructed(self) -> bool
-        ensures { λ b. ⌜ b ≡ asConstructed self ⌝ }
-    {
-        match self {
-            Clip::None => true,
-            Clip::Square { x0, y0, x1, y1 } => {
-                let r = Rect { x0, y0, x1, y1 };
-                same_rect(r.abs(), r)
-            }
-            Clip::Rounded {
-                x0,
-                y0,
-                x1,
-                y1,
-                top_left,
-                top_right,
-                bottom_right,
-                bottom_left,
-            } => {
-                let r = Rect { x0, y0, x1, y1 };
-                let q = RoundedRectRadii {
-                    top_left,
-                    top_right,
-                    bottom_right,
-                    bottom_left,
-                };
-                same_rect(r.abs(), r) & same_radii(q.fit(r), q) & !q.is_zero()
-            }
-        }
     }
 }

@@ -5,8 +5,10 @@ use mathlib.Core.List.{List, [], _∷_}
 use lib.Ieee.{round, units, odd, size, span, climb, neg, add, sub, mul, div, eq, le, lt, isNan}
 use Rattle.numbers.specs.Number.{minimum, maximum, magnitude, same}
 use Rattle.geometry.specs.Rectangle.{rect, hasArea, ordered, intersection, contains, plusInsets, rectEq, insetsEq, noInsets, finiteRect, finiteInsets}
-use Rattle.transforms.specs.Transform.{mapped, product, inverse, transformRectBbox, affineEq, finiteAffine}
-use Rattle.clips.specs.Clips.{clipRect, clipRadii, fitted, shaped, constructed, quadrant, excess, insideRounded, inside, clipRectEq, clipEq, finiteClipRect, finiteClip, asConstructed}
+use Rattle.transforms.specs.Transform.{mapped, product, inverse, affineEq, finiteAffine}
+use Rattle.transform_boxes.specs.Bbox.{transformRectBbox}
+use Rattle.clips.specs.Clips.{clipRect, clipRadii, fitted, shaped, constructed, quadrant, excess, insideRounded, inside, clipRectEq, clipEq, finiteClipRect, finiteClip}
+use Rattle.constructed_clips.specs.Constructed.{asConstructed}
 use Rattle.boxes.specs.Boxes.{aabbEq, containsPoint, overlaps}
 use Rattle.cells.specs.Cells.{boxAt, putBox, idAt, putId}
 use Rattle.counting.specs.Times.{times, every}

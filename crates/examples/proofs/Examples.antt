@@ -9,9 +9,10 @@ use lib.ListN.{getD}
 use lib.Ieee.{Float, binary64, ofInt, round, units, odd, size, span, climb, neg, add, sub, mul, div, eq, le, lt, isNan}
 use Rattle.numbers.specs.Rounded.{zero}
 use Rattle.numbers.specs.Number.{minimum, maximum, magnitude}
-use Rattle.geometry.specs.declared.point.Point.{Point}
+use Rattle.geometry_parts.specs.declared.point.Point.{Point}
 use Rattle.geometry.specs.Rectangle.{rect, ordered, intersection, contains, plusInsets, noInsets, finiteRect, finiteInsets}
-use Rattle.transforms.specs.Transform.{mapped, product, inverse, transformRectBbox, finiteAffine}
+use Rattle.transforms.specs.Transform.{mapped, product, inverse, finiteAffine}
+use Rattle.transform_boxes.specs.Bbox.{transformRectBbox}
 use Rattle.clips.specs.Clips.{clipRect, clipRadii, fitted, shaped, constructed, quadrant, excess, insideRounded, inside, finiteClipRect, finiteClip}
 use Rattle.boxes.specs.declared.NodeId.{NodeId}
 use Rattle.boxes.specs.Boxes.{containsPoint}

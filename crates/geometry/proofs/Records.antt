@@ -8,9 +8,9 @@ use Rattle.numbers.specs.Rounded as const
 use Rattle.numbers.proofs.Bools.{and-left, and-right, Four, four}
 use Rattle.numbers.proofs.Order.{lt-alike-right, le-alike, four-refl, four-sym, four-alike}
 use Rattle.numbers.proofs.Signs.{above-tells}
-use Rattle.geometry.specs.declared.point.Point.{Point}
+use Rattle.geometry_parts.specs.declared.point.Point.{Point}
 use Rattle.geometry.specs.declared.rect.Rect.{Rect}
-use Rattle.geometry.specs.declared.insets.Insets.{Insets}
+use Rattle.geometry_parts.specs.declared.insets.Insets.{Insets}
 use Rattle.geometry.specs.Rectangle.{width, height, contains, hasArea, rectEq, insetsEq, noInsets, finiteRect, finiteInsets}
 
 -- ---- rectangles

@@ -3,11 +3,12 @@
 use mathlib.Core.Bool.{Bool, _&&_}
 use lib.Ieee.{Float, lt, le, eq}
 use lib.Ieee.Scale.{finite}
-use Rattle.geometry.specs.declared.point.Point.{Point}
+use Rattle.geometry_parts.specs.declared.point.Point.{Point}
 use Rattle.geometry.specs.declared.rect.Rect.{Rect}
-use Rattle.geometry.specs.declared.insets.Insets.{Insets}
+use Rattle.geometry_parts.specs.declared.insets.Insets.{Insets}
 use Rattle.numbers.specs.Rounded.{_⊕_, _⊖_, zero}
 use Rattle.numbers.specs.Number.{minimum, maximum}
+unfoldable pub use Rattle.geometry_parts.specs.Parts.{insetsEq, noInsets, finiteInsets}
 
 abbrev pub rect : Float → Float → Float → Float → Rect
 rect x0 y0 x1 y1 = record { x0 = x0; y0 = y0; x1 = x1; y1 = y1 }
@@ -56,16 +57,6 @@ plusInsets r i = grown (ordered r) i
 unfoldable pub rectEq : Rect → Rect → Bool
 rectEq r s = eq (r .x0) (s .x0) && eq (r .y0) (s .y0) && (eq (r .x1) (s .x1) && eq (r .y1) (s .y1))
 
-unfoldable pub insetsEq : Insets → Insets → Bool
-insetsEq i j = eq (i .x0) (j .x0) && eq (i .y0) (j .y0) && (eq (i .x1) (j .x1) && eq (i .y1) (j .y1))
-
--- all insets equal 0
-unfoldable pub noInsets : Insets → Bool
-noInsets i = eq (i .x0) zero && eq (i .y0) zero && (eq (i .x1) zero && eq (i .y1) zero)
-
--- every edge, or every inset, is finite: what refusal 5 asks
+-- every edge is finite: what refusal 5 asks
 unfoldable pub finiteRect : Rect → Bool
 finiteRect r = finite (r .x0) && finite (r .y0) && (finite (r .x1) && finite (r .y1))
-
-unfoldable pub finiteInsets : Insets → Bool
-finiteInsets i = finite (i .x0) && finite (i .y0) && (finite (i .x1) && finite (i .y1))

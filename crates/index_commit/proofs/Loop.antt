@@ -12,8 +12,8 @@ use Rattle.boxes.specs.declared.Aabb2D.{Aabb2D}
 use Rattle.cells.specs.Cells.{boxAt}
 use Rattle.counting.proofs.Counting.{times-at}
 use Rattle.index_sound.proofs.Exact.{CountOf}
-use Rattle.index_entries.specs.declared.Previous.{Previous}
-use Rattle.index_entries.specs.declared.Previous.the-variants as was
+use Rattle.entry_reads.specs.declared.Previous.{Previous}
+use Rattle.entry_reads.specs.declared.Previous.the-variants as was
 use Rattle.index_entries.specs.Entries.{previousAt}
 use Rattle.index_entries.proofs.Keep.{settled, freed, free-room}
 use Rattle.index_commit.specs.declared.Change.{Change}

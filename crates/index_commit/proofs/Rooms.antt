@@ -10,8 +10,8 @@ use lib.Ieee.{Float}
 use Rattle.boxes.specs.declared.Aabb2D.{Aabb2D}
 use Rattle.cells.specs.Cells.{ofBox, putBox}
 use Rattle.cells.proofs.Laws.{box-length}
-use Rattle.index_entries.specs.declared.Previous.{Previous}
-use Rattle.index_entries.specs.declared.Previous.the-variants as was
+use Rattle.entry_reads.specs.declared.Previous.{Previous}
+use Rattle.entry_reads.specs.declared.Previous.the-variants as was
 use Rattle.index_commit.specs.Commit.{flat, inFront, boxesWith, roomWith, countWith}
 
 flat-length : (bs : List Aabb2D) → length (flat bs) ≡ 4 * length bs

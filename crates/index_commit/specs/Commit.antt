@@ -9,8 +9,8 @@ use lib.Ieee.{Float}
 use Rattle.boxes.specs.declared.Aabb2D.{Aabb2D}
 use Rattle.boxes.specs.Boxes.{aabbEq}
 use Rattle.cells.specs.Cells.{boxAt, putBox, ofBox}
-use Rattle.index_entries.specs.declared.Previous.{Previous}
-use Rattle.index_entries.specs.declared.Previous.the-variants as was
+use Rattle.entry_reads.specs.declared.Previous.{Previous}
+use Rattle.entry_reads.specs.declared.Previous.the-variants as was
 use Rattle.index_entries.specs.Entries.{previousAt}
 use Rattle.index_commit.specs.declared.Change.{Change}
 use Rattle.index_commit.specs.declared.Done.{Done}

@@ -13,8 +13,8 @@ use Rattle.counting.specs.Times.{one, times}
 use Rattle.counting.proofs.Counting.{one-small, hit, miss, times-next, times-put, times-at, shorter}
 use Rattle.index_sound.specs.Sound.{empty}
 use Rattle.index_sound.proofs.Exact.{SlotOf, CountOf}
-use Rattle.index_entries.specs.declared.Mark.{Mark}
-use Rattle.index_entries.specs.declared.Mark.the-variants as is
+use Rattle.entry_reads.specs.declared.Mark.{Mark}
+use Rattle.entry_reads.specs.declared.Mark.the-variants as is
 use Rattle.index_entries.specs.Entries.{stands, queueWith, lengthWith, markOf, slotFor, usedFor, unmarked, added, updatedMark, removedMark}
 use Rattle.index_entries.proofs.Slots.{slot-unused, slot-last, used-unused, used-last}
 

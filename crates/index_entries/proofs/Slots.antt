@@ -10,8 +10,8 @@ use lib.ListN.{getD}
 use lib.Ieee.{Float}
 use Rattle.boxes.specs.declared.Key.{Key}
 pub use Rattle.entry_slots.proofs.Slots.{slot-unused, slot-last, used-unused, used-last, generation-unused, generation-next}
-use Rattle.index_entries.specs.declared.Entry.{Entry}
-use Rattle.index_entries.specs.declared.Found.the-variants as finds
+use Rattle.entry_reads.specs.declared.Entry.{Entry}
+use Rattle.entry_reads.specs.declared.Found.the-variants as finds
 use Rattle.index_entries.specs.Entries.{entryAt, liveKey, lookUp}
 
 module _ (generation mark payload : List ℕ) (aabb : List Float) (kept : List ℕ) (prev : List Float) (k : Key) where

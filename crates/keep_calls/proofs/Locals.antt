@@ -8,7 +8,7 @@ use lib.Seq.{getD-set-same, getD-set-other}
 use lib.IntN.{ℤ, pos}
 use lib.Ieee.{Float}
 use Rattle.geometry.specs.declared.rect.Rect.{Rect}
-use Rattle.geometry.specs.declared.insets.Insets.{Insets}
+use Rattle.geometry_parts.specs.declared.insets.Insets.{Insets}
 use Rattle.transforms.specs.declared.affine.Affine.{Affine}
 use Rattle.clips.specs.declared.clip.Clip.{Clip}
 use Rattle.box_types.specs.declared.NodeFlags.{NodeFlags}

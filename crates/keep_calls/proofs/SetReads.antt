@@ -9,7 +9,7 @@ use lib.ListN.{length, getD, set}
 use lib.Seq.{getD-set-same}
 use lib.IntN.{ℤ}
 use Rattle.geometry.specs.declared.rect.Rect.{Rect}
-use Rattle.geometry.specs.declared.insets.Insets.{Insets}
+use Rattle.geometry_parts.specs.declared.insets.Insets.{Insets}
 use Rattle.geometry.specs.Rectangle.{rectEq, insetsEq}
 use Rattle.transforms.specs.declared.affine.Affine.{Affine}
 use Rattle.transforms.specs.Transform.{affineEq}

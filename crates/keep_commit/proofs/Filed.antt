@@ -12,8 +12,8 @@ use Rattle.boxes.specs.declared.NodeId.{NodeId}
 use Rattle.cells.proofs.Laws.{id-same, id-other}
 use Rattle.forest.specs.Forest.{Forest, has}
 use Rattle.forest.proofs.Bools.{never}
-use Rattle.index_entries.specs.declared.Mark.{Mark}
-use Rattle.index_entries.specs.declared.Mark.the-variants as is
+use Rattle.entry_reads.specs.declared.Mark.{Mark}
+use Rattle.entry_reads.specs.declared.Mark.the-variants as is
 use Rattle.index_entries.specs.Entries.{updatedMark}
 use Rattle.index_entries.proofs.Slots.{slot-unused}
 use Rattle.index_entries.proofs.Keep.{slot-empty, keep-insert, keep-update}

@@ -14,8 +14,8 @@ use Rattle.numbers.proofs.Bools.{split}
 use Rattle.counting.specs.Times.{one, times}
 use Rattle.counting.proofs.Counting.{hit, miss, times-put}
 use Rattle.index_sound.proofs.Exact.{CountOf}
-use Rattle.index_entries.specs.declared.Mark.{Mark}
-use Rattle.index_entries.specs.declared.Mark.the-variants as is
+use Rattle.entry_reads.specs.declared.Mark.{Mark}
+use Rattle.entry_reads.specs.declared.Mark.the-variants as is
 use Rattle.index_entries.specs.Entries.{stands, queueWith, lengthWith, markOf, unmarked, added, removedMark}
 use Rattle.index_entries.proofs.Keep as entries
 use Rattle.index_entries.proofs.Keep.{queue-stays, queue-grows, queue-room, queue-of}

@@ -7,8 +7,8 @@ use crate::line::holds;
 use crate::line::judged;
 use crate::line::point;
 use crate::line::rect;
+use transform_boxes::transform_rect_bbox;
 use transforms::affine::Affine;
-use transforms::util::transform_rect_bbox;
 use words::float;
 use words::place;
 

@@ -11,7 +11,8 @@ use lib.Seq.{take-at, drop-at, getD-take, getD-drop, getD-append-add, length-tak
 use Rattle.forest.specs.Table.{segEnd, rebased, depthsFrom, insertAll, cutOut}
 use Rattle.links.specs.declared.Links.{Links}
 use Rattle.links.specs.Links.{part, shifted, afterCut, endOf, splice, addRoot, addLast, cutTree, graft, graftLast, moveLast, moveRoot}
-use Rattle.links.proofs.Steps.{depth-small, length-part}
+use Rattle.link_depths.proofs.Depths.{depth-small}
+use Rattle.links.proofs.Steps.{length-part}
 
 -- the test of the shape bounds each depth of the table
 pub depth-fits : (n : ℕ) (ds : List ℕ) → depthsFrom 0 (take n ds) ≡ true → (j : ℕ) → j < n → getD ds j 0 ≤ j + 1

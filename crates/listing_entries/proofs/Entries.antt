@@ -13,7 +13,7 @@ use Rattle.numbers.proofs.Bools.{and-left, and-right}
 use Rattle.counting.specs.Times.{one, times}
 use Rattle.counting.proofs.Counting.{hit, miss, times-append, shorter}
 use Rattle.counting.proofs.Kit.{contra}
-use Rattle.geometry.specs.declared.point.Point.{Point}
+use Rattle.geometry_parts.specs.declared.point.Point.{Point}
 use Rattle.geometry.specs.declared.rect.Rect.{Rect}
 use Rattle.geometry.specs.Rectangle.{rect}
 use Rattle.boxes.specs.declared.Aabb2D.{Aabb2D}

@@ -7,14 +7,14 @@ use lib.ListN.{getD}
 use lib.Ieee.{Float, nan}
 use Rattle.numbers.specs.Rounded.{zero}
 use Rattle.geometry.specs.declared.rect.Rect.{Rect}
-use Rattle.geometry.specs.declared.insets.Insets.{Insets}
+use Rattle.geometry_parts.specs.declared.insets.Insets.{Insets}
 use Rattle.geometry.specs.Rectangle.{rect}
 use Rattle.transforms.specs.declared.affine.Affine.{Affine}
 use Rattle.radii.specs.declared.RoundedRectRadii.{RoundedRectRadii}
 use Rattle.clips.specs.declared.clip.Clip.{Clip}
 use Rattle.clips.specs.declared.clip.Clip.the-variants as is
-use Rattle.clips.specs.declared.clip.ClipRect.{ClipRect}
-use Rattle.clips.specs.declared.clip.ClipRect.the-variants as of
+use Rattle.clip_rects.specs.declared.ClipRect.{ClipRect}
+use Rattle.clip_rects.specs.declared.ClipRect.the-variants as of
 use Rattle.clips.specs.Clips.{clipRect, clipRadii}
 use Rattle.cells.specs.Stride.{segment, store}
 

@@ -7,12 +7,12 @@ use lib.ListN.{length}
 use lib.Seq.{length-sets}
 use lib.Ieee.{Float}
 use Rattle.geometry.specs.declared.rect.Rect.{Rect}
-use Rattle.geometry.specs.declared.insets.Insets.{Insets}
+use Rattle.geometry_parts.specs.declared.insets.Insets.{Insets}
 use Rattle.transforms.specs.declared.affine.Affine.{Affine}
 use Rattle.clips.specs.declared.clip.Clip.{Clip}
 use Rattle.clips.specs.declared.clip.Clip.the-variants as is
-use Rattle.clips.specs.declared.clip.ClipRect.{ClipRect}
-use Rattle.clips.specs.declared.clip.ClipRect.the-variants as of
+use Rattle.clip_rects.specs.declared.ClipRect.{ClipRect}
+use Rattle.clip_rects.specs.declared.ClipRect.the-variants as of
 use Rattle.clips.specs.Clips.{clipRect, clipRadii}
 use Rattle.cells.proofs.Segments.{same, other}
 use Rattle.node_cells.specs.Tables.{rectOf, ofRect, rectAt, putRect, insetsOf, ofInsets, insetsAt, putInsets, affineOf, ofAffine, affineAt, putAffine, squareOf, roundedOf, clipAt, kindOf, edgesFrom, edgesOf, ofClip, putClip, clipRectAt, isThere, putClipRect}

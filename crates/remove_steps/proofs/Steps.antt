@@ -13,10 +13,10 @@ use Rattle.geometry.specs.declared.rect.Rect.{Rect}
 use Rattle.geometry.specs.Rectangle.{hasArea}
 use Rattle.boxes.specs.declared.Key.{Key}
 use Rattle.node_tables.specs.Tables.{putRect}
-use Rattle.index_entries.specs.declared.Entry.{Entry}
-use Rattle.index_entries.specs.declared.Found.the-variants as finds
-use Rattle.index_entries.specs.declared.Mark.{Mark}
-use Rattle.index_entries.specs.declared.Mark.the-variants as is
+use Rattle.entry_reads.specs.declared.Entry.{Entry}
+use Rattle.entry_reads.specs.declared.Found.the-variants as finds
+use Rattle.entry_reads.specs.declared.Mark.{Mark}
+use Rattle.entry_reads.specs.declared.Mark.the-variants as is
 use Rattle.index_entries.specs.Entries.{queueWith, lengthWith, markOf, liveKey, lookUp, unmarked, added, removedMark}
 use Rattle.index_entries.proofs.Slots.{look-live, look-dead}
 use Rattle.tree_state.specs.declared.Pending.{Pending}

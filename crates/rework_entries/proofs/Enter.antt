@@ -8,7 +8,7 @@ use lib.Ieee.{Float}
 use Rattle.boxes.specs.declared.Aabb2D.{Aabb2D}
 use Rattle.boxes.specs.declared.NodeId.{NodeId}
 use Rattle.cells.specs.Cells.{putBox, putId}
-use Rattle.index_entries.specs.declared.Entry.{Entry}
+use Rattle.entry_reads.specs.declared.Entry.{Entry}
 use Rattle.index_entries.specs.Entries.{stands, queueWith, lengthWith, slotFor, usedFor, generationFor, entryAt, unmarked, updatedMark}
 use Rattle.understory_index.specs.declared.FlatVec.{FlatVec}
 use Rattle.rework_entries.specs.Enter.{index, keys, enterIndex, enterKeys}

@@ -11,7 +11,7 @@ use lib.Seq.{take-suc}
 use lib.Ieee.{Float}
 use Rattle.worlds.specs.World.{atRoot}
 use Rattle.forest.specs.Table.{lastAbove, lessDeep}
-use Rattle.links.proofs.Steps.{parent-stop, parent-on}
+use Rattle.link_depths.proofs.Depths.{parent-stop, parent-on}
 use Rattle.rework_worlds.specs.Places.{stored, handed, above}
 
 -- one place more, the nearest first

@@ -1,7 +1,7 @@
 -- A rectangle with four radii (document 01, module 2): a point inside, and equality to the bit.
 use mathlib.Core.Bool.{Bool, _&&_}
 use lib.Ieee.{Float, le}
-use Rattle.geometry.specs.declared.point.Point.{Point}
+use Rattle.geometry_parts.specs.declared.point.Point.{Point}
 use Rattle.geometry.specs.declared.rect.Rect.{Rect}
 use Rattle.radii.specs.declared.RoundedRectRadii.{RoundedRectRadii}
 use Rattle.numbers.specs.Rounded.{_⊕_, _⊖_, _⊗_, _⊘_, zero, half, two}

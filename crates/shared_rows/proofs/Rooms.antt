@@ -22,8 +22,10 @@ use Rattle.tree_commit.specs.Commit.{roomAfter, commitRoom}
 use Rattle.tree_listings.specs.Listings.{roomIf, intersectRoom, containingRoom}
 use Rattle.tree_taps.specs.Taps.{tapRoom}
 use Rattle.numbers.specs.Number.{minimum, maximum, magnitude, same}
-use Rattle.transforms.specs.Transform.{mapped, product, inverse, transformRectBbox, affineEq, finiteAffine}
-use Rattle.clips.specs.Clips.{clipRect, clipRadii, fitted, shaped, constructed, quadrant, excess, insideRounded, inside, clipRectEq, clipEq, finiteClipRect, finiteClip, asConstructed}
+use Rattle.transforms.specs.Transform.{mapped, product, inverse, affineEq, finiteAffine}
+use Rattle.transform_boxes.specs.Bbox.{transformRectBbox}
+use Rattle.clips.specs.Clips.{clipRect, clipRadii, fitted, shaped, constructed, quadrant, excess, insideRounded, inside, clipRectEq, clipEq, finiteClipRect, finiteClip}
+use Rattle.constructed_clips.specs.Constructed.{asConstructed}
 use Rattle.boxes.specs.Boxes.{aabbEq, containsPoint, overlaps}
 use Rattle.cells.specs.Cells.{boxAt, putBox, idAt, putId}
 use Rattle.index_entries.specs.Entries.{nextGeneration, queueWith, lengthWith, markOf, previousAt, slotFor, usedFor, generationFor}

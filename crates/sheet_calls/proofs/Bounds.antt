@@ -7,7 +7,7 @@ use native.Mathlib.Omega.{arith}
 use lib.IntN.{ℤ}
 use lib.ListN.{length, getD, take, length-map, length-reverse}
 use lib.Seq.{take-length}
-use Rattle.geometry.specs.declared.point.Point.{Point}
+use Rattle.geometry_parts.specs.declared.point.Point.{Point}
 use Rattle.box_types.specs.declared.NodeFlags.{NodeFlags}
 use Rattle.forest.specs.Forest.{Forest, pre, has, above, path, depth}
 use Rattle.forest.proofs.Laws.{place, place-there, slot-has, depth-small}

@@ -6,7 +6,8 @@ use lib.IntN.{ℤ, pos, negℤ}
 use lib.Ieee.{ofInt, round, units, odd, size, span, climb, neg, add, sub, mul, div, eq, le, lt, isNan}
 use Rattle.numbers.specs.Number.{minimum, maximum, magnitude}
 use Rattle.geometry.specs.Rectangle.{ordered, intersection, contains, plusInsets, noInsets, finiteRect, finiteInsets}
-use Rattle.transforms.specs.Transform.{mapped, product, inverse, transformRectBbox, finiteAffine}
+use Rattle.transforms.specs.Transform.{mapped, product, inverse, finiteAffine}
+use Rattle.transform_boxes.specs.Bbox.{transformRectBbox}
 use Rattle.clips.specs.Clips.{clipRect, clipRadii, fitted, shaped, constructed, quadrant, excess, insideRounded, inside, finiteClipRect, finiteClip}
 use Rattle.boxes.specs.Boxes.{containsPoint}
 use Rattle.worlds.specs.World.{image, meetOwn, meet, clipped, placed, worldBox, hitBox, reached}

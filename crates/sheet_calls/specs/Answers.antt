@@ -8,7 +8,7 @@ use mathlib.Core.List.{List, [], _∷_, _++_}
 use lib.Dec.{ltb}
 use lib.IntN.{ℤ, natAbs}
 use lib.ListN.{length}
-use Rattle.geometry.specs.declared.point.Point.{Point}
+use Rattle.geometry_parts.specs.declared.point.Point.{Point}
 use Rattle.box_types.specs.declared.NodeFlags.{NodeFlags}
 use Rattle.box_types.specs.Local.{flags}
 use Rattle.plan.specs.Plan.{Plan, empty}

@@ -8,7 +8,7 @@ use lib.IntN.{ℤ, pos}
 use lib.Ieee.{nan}
 use lib.ListN.{length, take, getD}
 use borrow.Author.Tests.{lt-ltb}
-use Rattle.geometry.specs.declared.point.Point.{Point}
+use Rattle.geometry_parts.specs.declared.point.Point.{Point}
 use Rattle.box_types.specs.declared.NodeFlags.{NodeFlags}
 use Rattle.box_types.specs.declared.OptionNodeId.the-variants as node
 use Rattle.box_types.specs.Local.{known, flags}

@@ -7,7 +7,8 @@ use lib.ListN.{getD}
 use lib.Ieee.{Float}
 use Rattle.geometry.specs.Rectangle.{rectEq, finiteRect, finiteInsets}
 use Rattle.transforms.specs.Transform.{finiteAffine}
-use Rattle.clips.specs.Clips.{finiteClip, asConstructed}
+use Rattle.clips.specs.Clips.{finiteClip}
+use Rattle.constructed_clips.specs.Constructed.{asConstructed}
 use Rattle.box_types.specs.Local.{emptyRect}
 use Rattle.node_tables.specs.Tables.{rectAt, insetsAt, affineAt, clipAt}
 

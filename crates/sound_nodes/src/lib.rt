@@ -30,7 +30,7 @@ pub fn value_right<'a>(
     b.is_finite()
         & s.is_finite()
         & (t.is_finite() & c.is_finite())
-        & ((flags[x] < 8) & c.is_constructed())
+        & ((flags[x] < 8) & constructed_clips::is_constructed(c))
 }
 
 // Inner: each that counts as changed has a mark.

@@ -13,7 +13,8 @@ use Rattle.numbers.specs.Rounded.{zero, one, two}
 use Rattle.numbers.specs.Number.{minimum, maximum, magnitude, same}
 use Rattle.geometry.specs.Rectangle.{rectEq, finiteRect, finiteInsets, ordered}
 use Rattle.transforms.specs.Transform.{finiteAffine}
-use Rattle.clips.specs.Clips.{asConstructed, clipRect, clipRadii, finiteClip, finiteClipRect}
+use Rattle.clips.specs.Clips.{clipRect, clipRadii, finiteClip, finiteClipRect}
+use Rattle.constructed_clips.specs.Constructed.{asConstructed}
 use Rattle.cells.specs.Cells as cells
 use Rattle.counting.specs.Times.{times, every}
 use Rattle.counting.specs.Lists.{onceBelow}

@@ -6,7 +6,8 @@ use lib.ListN.{replicate, set}
 use lib.Ieee.{eq}
 use Rattle.geometry.specs.Rectangle.{rectEq, finiteRect, finiteInsets}
 use Rattle.transforms.specs.Transform.{finiteAffine}
-use Rattle.clips.specs.Clips.{asConstructed, clipRect, clipRadii, finiteClip, finiteClipRect}
+use Rattle.clips.specs.Clips.{clipRect, clipRadii, finiteClip, finiteClipRect}
+use Rattle.constructed_clips.specs.Constructed.{asConstructed}
 use Rattle.cells.specs.Cells as cells
 use Rattle.counting.specs.Times.{times, every}
 use Rattle.counting.specs.Lists.{onceBelow}

@@ -8,7 +8,7 @@ use borrow.Author.Tests.{ne-eqb, eqb-false, ltb-true}
 use lib.Dec.{eqb}
 use lib.ListN.{getD}
 use Rattle.counting.proofs.Kit.{contra}
-use Rattle.geometry.specs.declared.point.Point.{Point}
+use Rattle.geometry_parts.specs.declared.point.Point.{Point}
 use Rattle.boxes.specs.declared.Aabb2D.{Aabb2D}
 use Rattle.boxes.specs.Boxes.{aabb, overlaps}
 use Rattle.cells.specs.Cells.{boxAt}

@@ -4,7 +4,7 @@ use mathlib.Core.List.{List, reverse}
 use Prim.Native.Nat.{ℕ}
 use lib.ListN.{getD, take}
 use lib.Ieee.{Float}
-use Rattle.geometry.specs.declared.point.Point.{Point}
+use Rattle.geometry_parts.specs.declared.point.Point.{Point}
 use Rattle.transforms.specs.Transform.{mapped, inverse}
 use Rattle.clips.specs.Clips.{inside}
 use Rattle.worlds.specs.World.{reached}

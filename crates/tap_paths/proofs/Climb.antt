@@ -11,7 +11,7 @@ use lib.ListN.{length, getD, take, length-reverse, length-map}
 use lib.Seq.{getD-take, length-take-le}
 use Rattle.numbers.proofs.Bools.{and-left, and-right}
 use Rattle.forest.specs.Table.{lessDeep, depthsFrom}
-use Rattle.links.proofs.Steps.{depth-small}
+use Rattle.link_depths.proofs.Depths.{depth-small}
 use Rattle.boxes.specs.declared.NodeId.{NodeId}
 use Rattle.cells.specs.Stride.{store}
 use Rattle.cells.specs.Cells.{ofId}

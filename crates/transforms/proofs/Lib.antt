@@ -1,2 +1,1 @@
 pub mod Equality
-mod Examples

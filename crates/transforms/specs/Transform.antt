@@ -2,12 +2,9 @@
 use mathlib.Core.Bool.{Bool, _&&_}
 use lib.Ieee.{Float, neg, eq}
 use lib.Ieee.Scale.{finite}
-use Rattle.geometry.specs.declared.point.Point.{Point}
-use Rattle.geometry.specs.declared.rect.Rect.{Rect}
+use Rattle.geometry_parts.specs.declared.point.Point.{Point}
 use Rattle.transforms.specs.declared.affine.Affine.{Affine}
 use Rattle.numbers.specs.Rounded.{_⊕_, _⊖_, _⊗_, _⊘_, zero, one}
-use Rattle.numbers.specs.Number.{minimum, maximum}
-use Rattle.geometry.specs.Rectangle.{rect}
 
 abbrev pub identity : Affine
 identity = record { a = one; b = zero; c = zero; d = one; e = zero; f = zero }
@@ -44,16 +41,6 @@ inverseBy t r =
 
 unfoldable pub inverse : Affine → Affine
 inverse t = inverseBy t (reciprocalDeterminant t)
-
--- `transform_rect_bbox`, operation by operation: each axis from the minimum, or the maximum, of either edge's product, the shift last.
--- A NaN product leaves the other product as both; of two equal zeros the first keeps its sign.
-unfoldable pub transformRectBbox : Affine → Rect → Rect
-transformRectBbox t r =
-    rect
-    (minimum (t .a ⊗ r .x0) (t .a ⊗ r .x1) ⊕ minimum (t .c ⊗ r .y0) (t .c ⊗ r .y1) ⊕ t .e)
-    (minimum (t .b ⊗ r .x0) (t .b ⊗ r .x1) ⊕ minimum (t .d ⊗ r .y0) (t .d ⊗ r .y1) ⊕ t .f)
-    (maximum (t .a ⊗ r .x0) (t .a ⊗ r .x1) ⊕ maximum (t .c ⊗ r .y0) (t .c ⊗ r .y1) ⊕ t .e)
-    (maximum (t .b ⊗ r .x0) (t .b ⊗ r .x1) ⊕ maximum (t .d ⊗ r .y0) (t .d ⊗ r .y1) ⊕ t .f)
 
 -- equality as numbers
 unfoldable pub affineEq : Affine → Affine → Bool

@@ -5,7 +5,7 @@ use mathlib.Core.List.{List, _∷_}
 use lib.IntN.{ℤ}
 use lib.ListN.{length, getD}
 use Rattle.geometry.specs.declared.rect.Rect.{Rect}
-use Rattle.geometry.specs.declared.insets.Insets.{Insets}
+use Rattle.geometry_parts.specs.declared.insets.Insets.{Insets}
 use Rattle.transforms.specs.declared.affine.Affine.{Affine}
 use Rattle.clips.specs.declared.clip.Clip.{Clip}
 use Rattle.boxes.specs.declared.NodeId.{NodeId}

@@ -7,7 +7,8 @@ use lib.Ieee.{Float, round, units, odd, size, span, climb, eq, le, lt, isNan, ne
 use Rattle.numbers.specs.Number.{minimum, maximum, magnitude, same}
 use Rattle.geometry.specs.Rectangle.{rect, rectEq, ordered, finiteRect, finiteInsets}
 use Rattle.transforms.specs.Transform.{finiteAffine}
-use Rattle.clips.specs.Clips.{asConstructed, constructed, shaped, clipRect, clipRadii, finiteClip, finiteClipRect}
+use Rattle.clips.specs.Clips.{constructed, shaped, clipRect, clipRadii, finiteClip, finiteClipRect}
+use Rattle.constructed_clips.specs.Constructed.{asConstructed}
 use Rattle.boxes.specs.Boxes.{aabb}
 use Rattle.cells.specs.Cells.{idAt}
 use Rattle.counting.specs.Times.{times, every}

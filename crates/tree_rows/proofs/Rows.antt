@@ -8,9 +8,11 @@ use lib.Ieee.{Float, binary64, round, units, odd, size, span, climb, neg, add, s
 use Rattle.numbers.specs.Rounded.{zero, one}
 use Rattle.numbers.specs.Number.{minimum, maximum, magnitude, same}
 use Rattle.geometry.specs.Rectangle.{rect, hasArea, ordered, intersection, contains, plusInsets, rectEq, insetsEq, noInsets, finiteRect, finiteInsets}
-use Rattle.transforms.specs.Transform.{identity, mapped, product, inverse, transformRectBbox, affineEq, finiteAffine}
+use Rattle.transforms.specs.Transform.{identity, mapped, product, inverse, affineEq, finiteAffine}
+use Rattle.transform_boxes.specs.Bbox.{transformRectBbox}
 use Rattle.clips.specs.declared.clip.Clip.the-variants as is
-use Rattle.clips.specs.Clips.{clipRect, clipRadii, fitted, shaped, constructed, quadrant, excess, insideRounded, inside, clipRectEq, clipEq, finiteClipRect, finiteClip, asConstructed}
+use Rattle.clips.specs.Clips.{clipRect, clipRadii, fitted, shaped, constructed, quadrant, excess, insideRounded, inside, clipRectEq, clipEq, finiteClipRect, finiteClip}
+use Rattle.constructed_clips.specs.Constructed.{asConstructed}
 use Rattle.boxes.specs.declared.NodeId.{NodeId}
 use Rattle.boxes.specs.Boxes.{aabbEq, containsPoint, overlaps}
 use Rattle.cells.specs.Cells.{boxAt, putBox, idAt, putId}

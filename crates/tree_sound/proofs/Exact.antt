@@ -20,7 +20,7 @@ use Rattle.index_sound.specs.Sound.{SoundOf, soundOf}
 use Rattle.index_sound.proofs.Exact as index
 use Rattle.geometry.specs.Rectangle.{rectEq}
 use Rattle.clips.specs.Clips.{constructed}
-use Rattle.clips.proofs.Constructed.{as-constructed}
+use Rattle.constructed_clips.proofs.Constructed.{as-constructed}
 use Rattle.boxes.specs.declared.NodeId.{NodeId}
 use Rattle.box_types.specs.Local.{finiteLocal, known, emptyRect}
 use Rattle.cells.specs.Cells.{idAt}

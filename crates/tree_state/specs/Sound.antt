@@ -7,7 +7,8 @@ use mathlib.Core.List.{List, [], _∷_}
 use lib.Dec.{eqb, ltb, leb}
 use lib.ListN.{getD, take}
 use Rattle.geometry.specs.Rectangle.{rectEq}
-use Rattle.clips.specs.Clips.{constructed, asConstructed}
+use Rattle.clips.specs.Clips.{constructed}
+use Rattle.constructed_clips.specs.Constructed.{asConstructed}
 use Rattle.boxes.specs.declared.NodeId.{NodeId}
 use Rattle.box_types.specs.Local.{finiteLocal, known, emptyRect}
 use Rattle.cells.specs.Cells.{idAt}

@@ -5,7 +5,7 @@ use mathlib.Core.List.{List, [], _∷_, _++_, reverse, map}
 use lib.Dec.{eqb, ltb}
 use lib.ListN.{length, getD, drop}
 use lib.Signed.{ltZ, leZ}
-use Rattle.geometry.specs.declared.point.Point.{Point}
+use Rattle.geometry_parts.specs.declared.point.Point.{Point}
 use Rattle.geometry.specs.declared.rect.Rect.{Rect}
 use Rattle.transforms.specs.Transform.{mapped, inverse}
 use Rattle.clips.specs.Clips.{inside}

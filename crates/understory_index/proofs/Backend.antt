@@ -22,8 +22,8 @@ use Rattle.counting.proofs.Counting.{hit, miss, times-append}
 use Rattle.counting.proofs.Kit.{contra}
 use Rattle.index_sound.proofs.Exact.{CountOf}
 use Rattle.index_sound.proofs.Counts.{zeros}
-use Rattle.index_entries.specs.declared.Mark.{Mark}
-use Rattle.index_entries.specs.declared.Mark.the-variants as is
+use Rattle.entry_reads.specs.declared.Mark.{Mark}
+use Rattle.entry_reads.specs.declared.Mark.the-variants as is
 use Rattle.index_entries.specs.Entries.{updatedMark, removedMark}
 use Rattle.index_entries.proofs.Slots.{live-slot}
 use Rattle.index_entries.proofs.Keep.{entry-used, slot-fits, slot-empty, Kind, plain, new, moved, gone, kind}

@@ -12,7 +12,7 @@ use Rattle.boxes.specs.declared.NodeId.{NodeId}
 use Rattle.cells.specs.Cells.{putBox, putId}
 use Rattle.boxes.specs.declared.Key.{Key}
 use Rattle.boxes.specs.Boxes as box
-use Rattle.index_entries.specs.declared.Entry.{Entry}
+use Rattle.entry_reads.specs.declared.Entry.{Entry}
 use Rattle.index_entries.specs.Entries.{queueWith, lengthWith, usedFor, entryAt, unmarked, added, updatedMark, removedMark}
 use Rattle.index_commit.specs.declared.Done.{Done}
 use Rattle.index_commit.specs.Commit.{inFront, Leaves, Lays}

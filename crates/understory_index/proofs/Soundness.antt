@@ -14,8 +14,8 @@ use Rattle.boxes.specs.declared.NodeId.{NodeId}
 use Rattle.boxes.specs.declared.Key.{Key}
 use Rattle.index_sound.specs.Sound.{SoundOf, soundOf}
 use Rattle.index_sound.proofs.Exact.{CountOf, count-tells, decides}
-use Rattle.index_entries.specs.declared.Mark.{Mark}
-use Rattle.index_entries.specs.declared.Mark.the-variants as is
+use Rattle.entry_reads.specs.declared.Mark.{Mark}
+use Rattle.entry_reads.specs.declared.Mark.the-variants as is
 use Rattle.index_entries.specs.Entries.{queueWith, unmarked, added}
 use Rattle.index_entries.proofs.Slots.{live-slot}
 use Rattle.index_entries.proofs.Keep.{keep-insert, keep-update, keep-remove}

@@ -12,7 +12,7 @@ use Rattle.boxes.specs.declared.NodeId.{NodeId}
 use Rattle.boxes.specs.declared.Key.{Key}
 use Rattle.cells.specs.Cells.{boxAt, putBox, putId}
 use Rattle.index_sound.specs.Sound.{soundOf}
-use Rattle.index_entries.specs.declared.Mark.{Mark}
+use Rattle.entry_reads.specs.declared.Mark.{Mark}
 use Rattle.index_entries.specs.Entries.{queueWith, lengthWith, slotFor, usedFor, generationFor, markOf, liveKey, unmarked, added, updatedMark, removedMark}
 use Rattle.index_commit.specs.Commit.{inFront, Work, work, start}
 use Rattle.index_query.specs.Query as query

@@ -1,14 +1,15 @@
 -- World records of a node (document 01, "What the tree does"), from what its parent hands down and its own local record.
 use mathlib.Core.Bool.{Bool, _&&_, cond}
-use Rattle.geometry.specs.declared.point.Point.{Point}
+use Rattle.geometry_parts.specs.declared.point.Point.{Point}
 use Rattle.geometry.specs.declared.rect.Rect.{Rect}
-use Rattle.geometry.specs.declared.insets.Insets.{Insets}
+use Rattle.geometry_parts.specs.declared.insets.Insets.{Insets}
 use Rattle.geometry.specs.Rectangle.{intersection, contains, plusInsets, noInsets}
 use Rattle.transforms.specs.declared.affine.Affine.{Affine}
-use Rattle.transforms.specs.Transform.{identity, mapped, product, transformRectBbox}
+use Rattle.transforms.specs.Transform.{identity, mapped, product}
+use Rattle.transform_boxes.specs.Bbox.{transformRectBbox}
 use Rattle.clips.specs.declared.clip.Clip.{Clip}
-use Rattle.clips.specs.declared.clip.ClipRect.{ClipRect}
-use Rattle.clips.specs.declared.clip.ClipRect.the-variants as of
+use Rattle.clip_rects.specs.declared.ClipRect.{ClipRect}
+use Rattle.clip_rects.specs.declared.ClipRect.the-variants as of
 use Rattle.clips.specs.Clips.{clipRect, inside}
 use Rattle.worlds.specs.declared.Placed.{Placed}
 

@@ -7,8 +7,8 @@ use clips::clip::ClipRect;
 use geometry::insets::Insets;
 use geometry::point::Point;
 use geometry::rect::Rect;
+use transform_boxes::transform_rect_bbox;
 use transforms::affine::Affine;
-use transforms::util::transform_rect_bbox;
 
 // What a node hands down to its children: its world transform and its world clip.
 pub struct Placed {

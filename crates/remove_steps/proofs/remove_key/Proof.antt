@@ -1,7 +1,7 @@
 use mathlib.Core.Path.{_≡_, sym, _∙_}
 use mathlib.Core.Bool.{true}
 use borrow.Author.Tests.{not-true, not-false}
-use Rattle.index_entries.specs.declared.Mark.the-variants as is
+use Rattle.entry_reads.specs.declared.Mark.the-variants as is
 use Rattle.remove_steps.specs.Node.{Owned}
 use Rattle.remove_steps.proofs.Steps.{never-dead, found-unmarked, not-added, none-removed, removed}
 use borrow.Author.Needs.{needs}

@@ -1,0 +1,30 @@
+use borrow.Author.Needs.{needs}
+use Rattle.geometry_parts.specs.Parts.{finiteInsets}
+use Rattle.geometry_parts.proofs.insets.Insets.is_finite.Statement.{statement}
+use Rattle.geometry_parts.proofs.insets.Insets.is_finite.Tie as tie
+
+is-finite-requires : tie.Need-is-finite-requires
+is-finite-requires c κs = search needs
+
+is-finite-requires-2 : tie.Need-is-finite-requires-2
+is-finite-requires-2 c κs = search needs
+
+is-finite-requires-3 : tie.Need-is-finite-requires-3
+is-finite-requires-3 c κs = search needs
+
+is-finite-requires-4 : tie.Need-is-finite-requires-4
+is-finite-requires-4 c κs = search needs
+
+returns : tie.Need-returns
+unfolding finiteInsets
+returns c = rw (c .is-finite4 .ensures, c .before .is-finite3 .ensures, c .before .before .is-finite2 .ensures, c .before .before .before .is-finite .ensures)
+
+pub is-finite-spec : {M : Type 1} → statement M
+is-finite-spec =
+    tie.close
+    (tie.spec
+    is-finite-requires
+    is-finite-requires-2
+    is-finite-requires-3
+    is-finite-requires-4
+    returns)

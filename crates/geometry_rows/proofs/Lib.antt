@@ -1,0 +1,3 @@
+pub mod Rectangles
+pub mod Transforms
+pub mod Clips
