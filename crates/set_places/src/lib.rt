@@ -9,11 +9,55 @@ use tree_state::Refusal;
 use tree_state::Tree;
 use tree_state::Verdict;
 
+// 1, 2, 5. As `tree_nodes::of_node`, which would be handed a copy of the tree: the tables are lent from here.
+fn test(t: Tree, id: NodeId, tf: Affine) -> Verdict
+    ensures { λ r. ⌜ r ≡ spec.transformVerdict t id tf ⌝ }
+{
+    let sound = tree_sound::sound_tables(
+        &t.links.order,
+        &t.links.depth,
+        &t.slots.generation,
+        &t.slots.free,
+        &t.locals.bounds,
+        &t.locals.slop,
+        &t.locals.transform,
+        &t.locals.kind,
+        &t.locals.clip,
+        &t.locals.flags,
+        &t.worlds.bounds,
+        &t.worlds.hit_bounds,
+        &t.marks.marked,
+        &t.marks.transform,
+        &t.marks.clip,
+        &t.keys.committed,
+        &t.keys.slot,
+        &t.keys.generation,
+        &t.index.mark,
+        &t.index.generation,
+        &t.index.payload,
+        &t.index.free,
+        &t.index.dirty,
+        t.links.count,
+        t.slots.used,
+        t.slots.frees,
+        t.pending.count,
+        t.index.frees,
+        t.index.queued,
+        t.index.used,
+    );
+    let held = tree_state::check(Verdict::Accepted, sound, Refusal::Unsound);
+    let Verdict::Accepted = held else {
+        return held;
+    };
+    let live = tree_nodes::is_live(&t.links.order, t.links.count, &t.slots.generation, id);
+    let node = tree_state::check(held, live, Refusal::DeadNode);
+    tree_state::check(node, tf.is_finite(), Refusal::NotFinite)
+}
+
 pub fn set_local_transform(mut t: Tree, id: NodeId, tf: Affine) -> After
     ensures { λ r. ⌜ r ≡ spec.transformCall t id tf ⌝ }
 {
-    let node = tree_nodes::of_node(t, id);
-    let v = tree_state::check(node, tf.is_finite(), Refusal::NotFinite);
+    let v = test(t, id, tf);
     let Verdict::Accepted = v else {
         return After { answer: v, tree: t };
     };

@@ -5,7 +5,6 @@ ghost use mathlib.Core.Bool.{true};
 ghost use Prim.Native.Nat.{_<_};
 ghost use lib.ListN.{take};
 ghost use Rattle.forest.specs.Table.{depthsFrom};
-ghost use Rattle.tree_state.specs.declared.Verdict.the-variants as is;
 ghost use Rattle.tree_steps.specs.Structure as step;
 ghost use Rattle.tree_insert.specs.Insert as spec;
 use box_types::LocalNode;
@@ -51,42 +50,36 @@ fn link_parent(t: Tree, parent: OptionNodeId, x: u32) -> Links
 
 // ---- the call
 
-// The stores of a call that nothing refuses.
-fn insert_accepted(t: Tree, parent: OptionNodeId, local: LocalNode) -> AfterInsert
-    requires { ⌜ step.insertVerdict t parent local ≡ is.Accepted ⌝ }
-    ensures { λ r. ⌜ r ≡ spec.insertDone t parent local ⌝ }
-{
-    let slots = t.slots;
-    let locals = t.locals;
-    let worlds = t.worlds;
-    let marks = t.marks;
-    let keys = t.keys;
-    let pending = t.pending;
-    let index = t.index;
-    let id = next_id(slots);
-    let x = id.0 as usize;
-    let tree = Tree {
-        slots: take_slot(slots, id),
-        links: link_parent(t, parent, id.0),
-        locals: store_local(locals, x, local),
-        worlds: clear_boxes(worlds, x),
-        marks: tree_changes::mark_both(marks, x),
-        keys: without_key(keys, x),
-        pending,
-        index,
-    };
-    AfterInsert {
-        answer: Inserted::Node(id),
-        tree,
-    }
-}
-
 pub fn insert(t: Tree, parent: OptionNodeId, local: LocalNode) -> AfterInsert
     ensures { λ r. ⌜ r ≡ spec.insertCall t parent local ⌝ }
 {
     let v = insert_tests::test(t, parent, local);
     match v {
-        Verdict::Accepted => insert_accepted(t, parent, local),
+        Verdict::Accepted => {
+            let slots = t.slots;
+            let locals = t.locals;
+            let worlds = t.worlds;
+            let marks = t.marks;
+            let keys = t.keys;
+            let pending = t.pending;
+            let index = t.index;
+            let id = next_id(slots);
+            let x = id.0 as usize;
+            let tree = Tree {
+                slots: take_slot(slots, id),
+                links: link_parent(t, parent, id.0),
+                locals: store_local(locals, x, local),
+                worlds: clear_boxes(worlds, x),
+                marks: tree_changes::mark_both(marks, x),
+                keys: without_key(keys, x),
+                pending,
+                index,
+            };
+            AfterInsert {
+                answer: Inserted::Node(id),
+                tree,
+            }
+        }
         Verdict::Refused(r) => AfterInsert {
             answer: Inserted::Refused(r),
             tree: t,

@@ -1,44 +1,29 @@
-use mathlib.Core.Path.{_≡_}
 use Prim.Native.Nat.{_<_}
 use borrow.Author.Needs.{needs}
 use Rattle.transforms.specs.Transform.{finiteAffine}
 use Rattle.tree_state.specs.declared.Verdict.{Verdict}
 use Rattle.tree_state.specs.declared.Refusal.the-variants as no
-use Rattle.tree_steps.specs.Setters.{ofNode, transformVerdict}
-use Rattle.setter_steps.proofs.Done.{refused, accepted, tested-all, tested-low, transform-stays, transform-done}
+use Rattle.tree_steps.specs.Setters.{transformVerdict}
+use Rattle.setter_steps.proofs.Done.{refused, accepted, tested-low, transform-stays, transform-done}
 use Rattle.set_places.proofs.set_local_transform.Statement.{statement}
 use Rattle.set_places.proofs.set_local_transform.Tie as tie
 
 -- ---- the test, and what it gives
 
-abbrev start : tie.After-check → tie.Start
-start c = c .before .before .before
+abbrev start : tie.After-test → tie.Start
+start c = c .before
 
-abbrev verdict : tie.After-check → Verdict
+abbrev verdict : tie.After-test → Verdict
 verdict c = transformVerdict (start c .args .t1) (start c .args .id) (start c .args .tf)
-
-tested : (c : tie.After-check) → c .check .result ≡ verdict c
-tested c =
-    let A = start c .args in
-    tested-all (ofNode (A .t1) (A .id)) (c .before .before .of-node .result) (c .check .result) (finiteAffine (A .tf)) (c .before .is-finite .result) no.NotFinite
-    (c .before .before .of-node .ensures)
-    (c .before .is-finite .ensures)
-    (c .check .ensures)
 
 low : (c : tie.After-enum-told) → start (c .before .before) .args .id .0 < 256
 low c =
     let k = c .before .before in
     let A = start k .args in
-    tested-low (A .t1) (A .id) (finiteAffine (A .tf)) no.NotFinite (k .check .result) (start k .good .0) (tested k) (c .enum-told .given .1)
+    tested-low (A .t1) (A .id) (finiteAffine (A .tf)) no.NotFinite (k .test .result) (start k .good .0) (k .test .ensures) (c .enum-told .given .1)
 
-of-node-requires : tie.Need-of-node-requires
-of-node-requires c κs = search needs
-
-is-finite-requires : tie.Need-is-finite-requires
-is-finite-requires c κs = search needs
-
-check-requires : tie.Need-check-requires
-check-requires c κs = search needs
+test-requires : tie.Need-test-requires
+test-requires c κs = search needs
 
 enum-told : tie.Need-enum-told
 enum-told c = search needs
@@ -49,7 +34,7 @@ enum-told-2 c = search needs
 returns : tie.Need-returns
 returns c =
     let k = c .before .before in
-    refused (verdict k) (k .check .result) _ (start k .args .t1) (tested k) (c .enum-told2 .given .0 .0) (c .enum-told2 .given .1)
+    refused (verdict k) (k .test .result) _ (start k .args .t1) (k .test .ensures) (c .enum-told2 .given .0 .0) (c .enum-told2 .given .1)
 
 cast-x : tie.Need-cast-x
 cast-x c = search needs
@@ -71,7 +56,7 @@ returns-2 c =
     let e = from-read d in
     let k = e .before .before in
     let A = start k .args in
-    accepted (verdict k) (k .check .result) _ (A .t1) (tested k) (A .t1) (e .enum-told .given .1)
+    accepted (verdict k) (k .test .result) _ (A .t1) (k .test .ensures) (A .t1) (e .enum-told .given .1)
     (transform-stays (A .t1) (A .id .0) (c .before .eq .result) (A .tf) (d .affine-at .result) (d .affine-at .ensures) (c .before .eq .ensures) (c .if1 .taken))
 
 put-affine-requires : tie.Need-put-affine-requires
@@ -92,16 +77,14 @@ returns-3 c =
     let e = from-read d in
     let k = e .before .before in
     let A = start k .args in
-    accepted (verdict k) (k .check .result) _ (A .t1) (tested k) _ (e .enum-told .given .1)
+    accepted (verdict k) (k .test .result) _ (A .t1) (k .test .ensures) _ (e .enum-told .given .1)
     (transform-done (A .t1) (A .id .0) (f .before .eq .result) (A .tf) (d .affine-at .result) (d .affine-at .ensures) (f .before .eq .ensures) (f .if1 .left) (p .put-affine .last .0) (m .mark .last .0) (c .mark2 .last .0) (p .put-affine .ensures) (m .mark .ensures) (c .mark2 .ensures))
 
 pub set-local-transform-spec : {M : Type 1} → statement M
 set-local-transform-spec =
     tie.close
     (tie.spec
-    of-node-requires
-    is-finite-requires
-    check-requires
+    test-requires
     enum-told
     enum-told-2
     returns
