@@ -1,9 +1,9 @@
 // Typed values of 256 nodes in flat tables of numbers: a rectangle or insets four f64 in a row, a transform six, a clip its kind and eight.
+pub use clip_cells::put_clip;
 pub use clip_flags::clip_kind;
 pub use clip_flags::clip_rect_at;
 pub use clip_flags::has_clip_rect;
 pub use clip_flags::put_clip_rect;
-pub use clip_cells::put_clip;
 pub use node_boxes::affine_at;
 pub use node_boxes::insets_at;
 pub use node_boxes::put_affine;
