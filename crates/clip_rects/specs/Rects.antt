@@ -11,7 +11,7 @@ clipRectEq of.None (of.Some s) = false
 clipRectEq (of.Some r) of.None = false
 clipRectEq (of.Some r) (of.Some s) = rectEq r s
 
--- finiteness
+-- every edge is finite, where there is a rectangle: part of what refusal 5 asks
 unfoldable pub finiteClipRect : ClipRect → Bool
 finiteClipRect of.None = true
 finiteClipRect (of.Some r) = finiteRect r

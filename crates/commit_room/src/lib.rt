@@ -1,4 +1,4 @@
-// The room of a commit, and its end: no mark.
+// What a commit begins and ends with, over lent tables (tree.rs: commit): the pending rectangles in front of the room; no mark.
 ghost use mathlib.Core.Path.{_≡_};
 ghost use mathlib.Core.Bool.{false};
 ghost use Prim.Native.Nat.{_≤_};

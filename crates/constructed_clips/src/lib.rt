@@ -7,7 +7,7 @@ use radii::RoundedRectRadii;
 use rounded::same_radii;
 use rounded::same_rect;
 
-// The constructor leaves the clip as it is, to the bit.
+// Inner: the constructor leaves the clip as it is, to the bit.
 pub fn is_constructed(clip: Clip) -> bool
     ensures { λ b. ⌜ b ≡ asConstructed clip ⌝ }
 {

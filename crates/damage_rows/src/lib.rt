@@ -1,1 +1,1 @@
-// No code: worked rows of damage and of the readings of links, lists of calls computed to the plan's answers.
+// No code: worked rows of a commit's damage and of the readings of links, each a list of calls computed on the tree's definitions.

@@ -35,7 +35,7 @@ pub enum Found {
 }
 
 // The mark that a number of the table stands for, for a slot that is not empty.
-pub fn mark_of(n: u8) -> Mark
+fn mark_of(n: u8) -> Mark
     ensures { λ r. ⌜ r ≡ spec.markOf n ⌝ }
 {
     if n == 1 {
@@ -61,7 +61,7 @@ pub fn previous_at<'a>(kept: &'a [u8; 512], prev: &'a [f64; 2048], x: usize) -> 
     Previous::Some(cells::box_at(prev, x))
 }
 
-// What a key finds: a slot's entry, if the slot is not empty and the generation is the key's.
+// Inner: what a key finds: a slot's entry, if the slot is not empty and the generation is the key's.
 pub fn look_up<'a>(
     generation: &'a [u32; 512],
     mark: &'a [u8; 512],

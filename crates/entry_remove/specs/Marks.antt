@@ -1,4 +1,4 @@
--- What a removal does, by the entry's mark (document 01, module 5).
+-- Marks told apart, as update and remove ask, and the mark after a removal (document 01, module 5).
 use Prim.Native.Nat.{ℕ}
 use mathlib.Core.Bool.{Bool, true, false}
 use Rattle.entry_reads.specs.declared.Mark.{Mark}
@@ -16,7 +16,7 @@ added is.Added = true
 added is.Updated = false
 added is.Removed = false
 
--- after a removal: an added entry goes at once
+-- the mark's number after a removal: an added entry goes at once
 abbrev pub removedMark : Mark → ℕ
 removedMark is.Unmarked = 4
 removedMark is.Added = 0

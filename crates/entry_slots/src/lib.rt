@@ -7,7 +7,7 @@ ghost use lib.ListN.{length};
 ghost use Rattle.entry_slots.specs.Slots as spec;
 
 // The generation of a slot that is used again: one higher, past 4,294,967,295 to 1, never 0.
-pub fn next_generation(generation: u32) -> u32
+fn next_generation(generation: u32) -> u32
     ensures { λ r. ⌜ r ≡ spec.nextGeneration generation ⌝ }
 {
     let next = std::num::wrapping_add_u32(generation, 1);
@@ -77,7 +77,7 @@ pub fn used_after(frees: usize, used: usize) -> usize
     if frees == 0 { used + 1 } else { used }
 }
 
-// How many slots stay in the free list then.
+// Inner: how many slots stay in the free list then.
 pub fn frees_after(frees: usize) -> usize
     ensures { λ r. ⌜ r ≡ frees - 1 ⌝ }
 {

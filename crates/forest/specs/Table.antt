@@ -2,7 +2,7 @@
 -- places from its own up to the first that is not deeper.
 use Prim.Native.Nat.{ℕ, zero, suc, _+_, _-_}
 use mathlib.Core.Bool.{Bool, true, false, _&&_}
-use mathlib.Core.List.{List, [], _∷_, _++_, map}
+use mathlib.Core.List.{List, [], _∷_, _++_, map, reverse}
 use lib.Dec.{eqb, ltb, leb}
 use lib.ListN.{length, getD, take, drop}
 
@@ -31,6 +31,10 @@ unfoldable pub lessDeep : ℕ → List ℕ → List ℕ → List ℕ
 lessDeep d [] ds = []
 lessDeep d (x ∷ xs) [] = []
 lessDeep d (x ∷ xs) (e ∷ es) = elim (ltb e d) [ true ↦ x ∷ lessDeep e xs es | false ↦ lessDeep d xs es ]
+
+-- the slots above a place, the parent first
+abbrev pub above : List ℕ → List ℕ → ℕ → List ℕ
+above order depth i = lessDeep (getD depth i 0) (reverse (take i order)) (reverse (take i depth))
 
 -- the slots at the depth k
 unfoldable pub atDepth : ℕ → List ℕ → List ℕ → List ℕ

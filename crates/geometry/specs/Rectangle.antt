@@ -1,4 +1,4 @@
--- Rectangles and insets (document 01, module 1). A rectangle has two low edges, x0 and y0, and two high edges, x1 and y1; nothing
+-- Rectangles, and bounds plus insets (document 01, module 1). A rectangle has two low edges, x0 and y0, and two high edges, x1 and y1; nothing
 -- keeps a low edge below its high edge.
 use mathlib.Core.Bool.{Bool, _&&_}
 use lib.Ieee.{Float, lt, le, eq}

@@ -1,5 +1,5 @@
-// Entries of the index over lent tables: understory_index's index.rs, its inner steps. The calls by value and the box tree stand on these.
-// Look-up, insert and remove are passed on.
+// The update of an entry over lent tables (understory_index's index.rs). Look-up, insert and remove are passed on: the calls by value and the
+// box tree stand on these.
 ghost use mathlib.Core.Path.{_≡_};
 ghost use mathlib.Core.Bool.{false, cond};
 ghost use Prim.Native.Nat.{_<_, _≤_};
@@ -7,18 +7,15 @@ ghost use lib.ListN.{length, set};
 ghost use Rattle.cells.specs.Cells.{putBox};
 ghost use Rattle.index_entries.specs.Entries as spec;
 use boxes::Aabb2D;
-pub use entry_insert::Entered;
 pub use entry_insert::insert_entry;
 pub use entry_reads::Entry;
 pub use entry_reads::Found;
 pub use entry_reads::Mark;
 pub use entry_reads::Previous;
 pub use entry_reads::look_up;
-pub use entry_reads::mark_of;
 pub use entry_reads::previous_at;
 pub use entry_remove::Lengths;
 pub use entry_remove::remove_entry;
-pub use entry_slots::next_generation;
 use entry_slots::queue_dirty_slot;
 
 // Inner: gives a slot's entry another box. An entry without a mark keeps the box it had and is queued; an added one stays added. The

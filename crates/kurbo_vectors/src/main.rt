@@ -1,4 +1,4 @@
-// Runs vectors of kurbo's geometry, on standard input, through the crates numbers, geometry, transforms and clips, and writes which differ.
+// Runs vectors of kurbo's geometry, on standard input, through the crates of the geometry (numbers to clips), and writes which differ.
 // docs/VECTORS.md has the format. A line that is no vector is malformed, counts as one that differs, and stops nothing.
 mod line; // a line's words, and numbers against words
 mod affine_ops;

@@ -1,4 +1,4 @@
--- Of a live node in a sound tree: its place, and its neighbours in the table.
+-- Of a live node in a sound tree: its place, its neighbours in the table, and its parent.
 use mathlib.Core.Path.{_≡_, sym, ap, _∙_}
 use mathlib.Core.Bool.{true}
 use mathlib.Core.List.{List, [], _∷_}

@@ -1,4 +1,4 @@
-// The neighbours of a live node in a walk of its tree, and the id and the depth at a place of the table.
+// The neighbours of a live node in a walk of its tree, and the id and the depth at a place of the table (tree.rs: next_in_order, prev_in_order).
 ghost use mathlib.Core.Path.{_≡_};
 ghost use mathlib.Core.Bool.{true};
 ghost use Prim.Native.Nat.{_<_};

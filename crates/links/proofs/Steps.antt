@@ -1,4 +1,4 @@
--- A turn of each loop, as a law of lists.
+-- A turn of `insert_at`'s loop and of each loop of `link_parts`, as a law of lists.
 use mathlib.Core.Path.{_≡_, refl, sym, ap, _∙_}
 use mathlib.Core.Bool.{Bool, true, false}
 use mathlib.Core.List.{List, [], _∷_, _++_, map, map-append, append-assoc, append-nil}

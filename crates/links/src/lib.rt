@@ -1,6 +1,6 @@
 // The links of a box tree of at most 256 nodes (tree.rs: `parent`, `children`): a table in pre-order, the slots and beside them their depths,
 // in front of two arrays (forest, specs/Table.antt). Contracts speak of whole arrays, so that what stands behind the table is settled too.
-// Readings are passed on.
+// Places (link_places), depths and the test of the shape (link_depths) are passed on.
 ghost use mathlib.Core.Path.{_≡_};
 ghost use mathlib.Core.Bool.{true};
 ghost use mathlib.Core.List.{_∷_, []};

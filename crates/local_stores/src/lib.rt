@@ -1,4 +1,4 @@
-// What an insert stores in its slot (tree.rs): the local record, no world boxes, no key.
+// What an insert stores in its slot (tree.rs): the local record, no world boxes, no key; and whether the record's numbers are finite.
 ghost use mathlib.Core.Path.{_≡_};
 ghost use Prim.Native.Nat.{_<_};
 ghost use Rattle.box_types.specs.Local as local_spec;

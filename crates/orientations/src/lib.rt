@@ -57,7 +57,7 @@ fn turned(m: Linear) -> Linear
     }
 }
 
-// Orientation k: k mod 4 turns, mirrored first from 4 up.
+// Inner: orientation k: k mod 4 turns, mirrored first from 4 up.
 pub fn orientation(k: u64) -> Linear
     ensures { λ r. ⌜ spec.linear r ≡ call.orientation k ⌝ }
 {

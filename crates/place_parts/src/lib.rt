@@ -26,7 +26,7 @@ pub fn clip_for(clips: &[i64; 1536], m: usize, k: usize) -> Clip
 {
     let mut i = 0;
     while i < m {
-        let c = clip_rows::clip_at(clips, i);
+        let c = clip_table::clip_at(clips, i);
         if is_place(c.place, k) {
             return sheet_clips::clip_on(c);
         }

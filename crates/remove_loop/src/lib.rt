@@ -1,4 +1,4 @@
-// The nodes of a removal, one after the other, over lent tables: each slot is freed.
+// The nodes of a removal, one after the other, over lent tables: each slot is freed (tree.rs: remove).
 ghost use mathlib.Core.Path.{_≡_};
 ghost use Prim.Native.Nat.{_+_, _≤_};
 ghost use lib.ListN.{length, take};

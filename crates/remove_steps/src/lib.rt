@@ -1,4 +1,4 @@
-// One node of a removal, over lent tables: its world box is pending if it has area, its entry is marked removed.
+// One node of a removal, over lent tables: its world box is pending if it has area, its entry is marked removed (tree.rs: remove).
 ghost use mathlib.Core.Path.{_≡_};
 ghost use mathlib.Core.Bool.{true, cond};
 ghost use Prim.Native.Nat.{_<_, _≤_};

@@ -1,17 +1,13 @@
 -- The world record of a place on lent tables. On a tree's own tables these are the definitions of `tree_steps`.
 use Prim.Native.Nat.{ℕ}
 use mathlib.Core.Bool.{Bool, false}
-use mathlib.Core.List.{List, [], _∷_, reverse}
-use lib.ListN.{getD, take}
+use mathlib.Core.List.{List, [], _∷_}
+use lib.ListN.{getD}
 use lib.Ieee.{Float}
 use Rattle.node_tables.specs.Tables.{affineAt, clipAt, clipRectAt}
 use Rattle.worlds.specs.declared.Placed.{Placed}
 use Rattle.worlds.specs.World.{atRoot, placed}
-use Rattle.forest.specs.Table.{lessDeep}
-
--- the slots above a place, the parent first
-abbrev pub above : List ℕ → List ℕ → ℕ → List ℕ
-above order depth i = lessDeep (getD depth i 0) (reverse (take i order)) (reverse (take i depth))
+pub use Rattle.forest.specs.Table.{above}
 
 -- what a slot hands down, as stored
 abbrev pub stored : List Float → List Bool → List Float → ℕ → Placed

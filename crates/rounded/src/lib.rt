@@ -29,14 +29,14 @@ pub fn winding(r: Rect, q: RoundedRectRadii, p: Point) -> bool
     px * px + py * py <= radius * radius
 }
 
-// Equality to the bit.
+// Inner: equality to the bit.
 pub fn same_rect(r: Rect, s: Rect) -> bool
     ensures { λ b. ⌜ b ≡ sameRect r s ⌝ }
 {
     same(r.x0, s.x0) & same(r.y0, s.y0) & (same(r.x1, s.x1) & same(r.y1, s.y1))
 }
 
-// Equality to the bit.
+// Inner: equality to the bit.
 pub fn same_radii(q: RoundedRectRadii, s: RoundedRectRadii) -> bool
     ensures { λ b. ⌜ b ≡ sameRadii q s ⌝ }
 {

@@ -29,8 +29,6 @@ fn put_sheet(p: Parsed, room: &mut [u8]) -> usize
     tap_lines::put_taps(t, &taps, p.tapped, first, room)
 }
 
-// ---- the answer
-
 // The text of what was read.
 fn put_read(p: Parsed, room: &mut [u8]) -> usize
     requires { ⌜ spec.FromBytes p × (16384 ≤ length (now room)) ⌝ }

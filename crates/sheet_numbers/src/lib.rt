@@ -29,7 +29,7 @@ pub fn small(x: i64) -> u8
     x as u8
 }
 
-// As whole numbers.
+// Inner: whether two are equal, as whole numbers.
 pub fn equal(a: i64, b: i64) -> bool
     ensures { λ r. ⌜ r ≡ call.equal a b ⌝ }
 {

@@ -39,7 +39,7 @@ pub fn insert_all(places: &[i64; 2816], n: usize, clips: &[i64; 1536], m: usize)
     let mut changed_clip = marks.clip;
     let mut i = 0;
     while i < n {
-        let p = place_rows::place_at(places, i);
+        let p = place_table::place_at(places, i);
         let own = place_parts::clip_for(clips, m, i + 1);
         let parent = place_parts::parent_in(p);
         let local = sheet_nodes::local_of(p, own);

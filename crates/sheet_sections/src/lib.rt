@@ -55,10 +55,10 @@ fn read_section(
             return Lines::Stopped(Refusal::Malformed, line + i);
         }
         let row = f.row;
-        if !row_ranges::in_range(kind, &row) {
+        if !sheet_ranges::in_range(kind, &row) {
             return Lines::Stopped(Refusal::OutOfRange, line + i);
         }
-        if !row_places::fits_before(kind, table, i, &row) {
+        if !named_places::fits_before(kind, table, i, &row) {
             return Lines::Stopped(Refusal::BadPlace, line + i);
         }
         put_row(table, i * width, width, &row);
@@ -78,7 +78,7 @@ fn read_count(s: &[u8], at: usize, most: u32, line: usize) -> Lines
         return Lines::Stopped(Refusal::Malformed, line);
     }
     let row = f.row;
-    if !row_ranges::count_in_range(most, &row) {
+    if !sheet_ranges::count_in_range(most, &row) {
         return Lines::Stopped(Refusal::OutOfRange, line);
     }
     let z = row[0];

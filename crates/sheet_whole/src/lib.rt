@@ -32,7 +32,7 @@ fn from_clips(s: &[u8], at: usize, places: [i64; 2816], n: usize) -> Parsed
     }
 }
 
-// The sheet that begins at a position: its lines, or why it is refused, with the line, counted from 1 there.
+// Inner: the sheet that begins at a position: its lines, or why it is refused, with the line, counted from 1 there.
 pub fn sheet_at(s: &[u8], at: usize) -> Parsed
     ensures { λ r. ⌜ told r ≡ spec.readSheet (drop at (now (s .entry))) ⌝ }
 {

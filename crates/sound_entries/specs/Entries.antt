@@ -9,7 +9,7 @@ use Rattle.boxes.specs.declared.Key.{Key}
 use Rattle.cells.specs.Cells.{idAt}
 use Rattle.tree_state.specs.Sound.{sameId}
 
--- the node owns the entry of its key: `keyRight`, over the index's marks, generations and payloads
+-- the node owns the entry of its key: `ownsRight`, over the index's marks, generations and payloads
 unfoldable pub ownsAt : List ℕ → List ℕ → List ℕ → Key → NodeId → Bool
 ownsAt mark generation payload key node =
     ltb (key .0) 512

@@ -44,7 +44,7 @@ fn owned_right<'a>(
     (live[x] > 0) & (committed[x] & (slot[x] == k))
 }
 
-// Inner: the first `used` entries.
+// Inner: each of the first `used` entries is empty, removed, or owned by the node that it carries.
 pub fn entries_right<'a>(
     live: &'a [u8; 256],
     committed: &'a [bool; 256],

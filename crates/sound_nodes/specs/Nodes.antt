@@ -16,7 +16,7 @@ use Rattle.node_tables.specs.Tables.{rectAt, insetsAt, affineAt, clipAt}
 abbrev pub Low : List ℕ → ℕ → Type 0
 Low order n = (k : ℕ) → k < n → getD order k 0 < 256
 
--- ---- one live node: `valuesRight`, `marksRight`, `keyRight`
+-- ---- one live node: `valuesRight`, `marksRight`, `newRight`
 
 unfoldable pub valuesAt : List Float → List Float → List Float → List ℕ → List Float → List ℕ → ℕ → Bool
 valuesAt bounds slop transform kind clip flags x =

@@ -10,7 +10,7 @@ use node_tables::clip_at;
 use node_tables::insets_at;
 use node_tables::rect_at;
 
-// Inner: finite, with known flags, and a clip as constructed.
+// Inner: one node's values: finite, with known flags, and a clip as constructed.
 pub fn value_right<'a>(
     bounds: &'a [f64; 1024],
     slop: &'a [f64; 1024],
@@ -33,7 +33,7 @@ pub fn value_right<'a>(
         & ((flags[x] < 8) & constructed_clips::is_constructed(c))
 }
 
-// Inner: each that counts as changed has a mark.
+// Inner: each live node that counts as changed has a mark.
 pub fn marks_right<'a>(
     order: &'a [u32; 256],
     n: usize,
@@ -54,7 +54,7 @@ pub fn marks_right<'a>(
     ok
 }
 
-// Inner: empty world boxes, and changed in transform and clip.
+// Inner: a node that is not committed yet: empty world boxes, changed in transform and in clip.
 pub fn new_node_right<'a>(
     bounds: &'a [f64; 1024],
     hit: &'a [f64; 1024],

@@ -1,4 +1,4 @@
-// The strongest of the candidates of a tap, over lent tables.
+// The strongest of the candidates of a tap, over lent tables (tree.rs: hit_test_point).
 ghost use mathlib.Core.Path.{_≡_};
 ghost use Rattle.tree_state.specs.declared.Tree.{Tree};
 ghost use Rattle.tree_steps.specs.Requests as request;

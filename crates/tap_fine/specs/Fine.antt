@@ -1,6 +1,6 @@
 -- What makes a node a candidate, over the tables that a function is lent.
 use mathlib.Core.Bool.{Bool, _&&_}
-use mathlib.Core.List.{List, reverse}
+use mathlib.Core.List.{List}
 use Prim.Native.Nat.{ℕ}
 use lib.ListN.{getD, take}
 use lib.Ieee.{Float}
@@ -11,12 +11,9 @@ use Rattle.worlds.specs.World.{reached}
 use Rattle.box_types.specs.declared.NodeFlags.{NodeFlags}
 use Rattle.box_types.specs.Local.{hasAll, flags}
 use Rattle.node_tables.specs.Tables.{rectAt, insetsAt, affineAt, clipAt}
-use Rattle.forest.specs.Table.{indexOf, lessDeep}
+use Rattle.forest.specs.Table.{indexOf}
+pub use Rattle.forest.specs.Table.{above}
 use Rattle.tree_state.specs.Sound.{everyOf}
-
--- the slots above a place, the parent first
-abbrev pub above : List ℕ → List ℕ → ℕ → List ℕ
-above order depth i = lessDeep (getD depth i 0) (reverse (take i order)) (reverse (take i depth))
 
 -- the mapped-back point is in the clip of one node
 unfoldable pub clipHolds : List ℕ → List Float → List Float → Point → ℕ → Bool

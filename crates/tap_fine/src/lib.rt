@@ -1,4 +1,4 @@
-// The fine test of a tap on a node: its flags, its bounds plus slop and its clip, and the clips of those above it; over lent tables.
+// The fine test of a tap on a node: its flags, its bounds plus slop and its clip, and the clips of those above it; over lent tables (tree.rs: hit_test_point).
 ghost use mathlib.Core.Path.{_≡_};
 ghost use mathlib.Core.Bool.{true, _&&_};
 ghost use Prim.Native.Nat.{_<_, _≤_};

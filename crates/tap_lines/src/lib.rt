@@ -14,7 +14,7 @@ pub fn put_taps(t: Tree, taps: &[i64; 3000], n: usize, at: usize, room: &mut [u8
     let mut next = at;
     let mut i = 0;
     while i < n {
-        let p = tap_rows::tap_at(taps, i);
+        let p = tap_table::tap_at(taps, i);
         let asked = tap_points::asked_of(p);
         let point = tap_points::point_of(p);
         let best = tree_taps::strongest(

@@ -1,4 +1,4 @@
-// Which of two candidates of a tap is the stronger: level, depth, generation, index; over lent tables.
+// Which of two candidates of a tap is the stronger: level, depth, generation, index; over lent tables (tree.rs: hit_test_point, id_is_newer).
 ghost use mathlib.Core.Path.{_≡_};
 ghost use mathlib.Core.Bool.{true, cond};
 ghost use Prim.Native.Nat.{_<_, _≤_};

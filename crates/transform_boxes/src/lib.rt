@@ -1,4 +1,4 @@
-// The box tree's util.rs, but for `rect_to_aabb`, which stands with the index's boxes.
+// The box tree's util.rs, but for `rect_to_aabb`, which stands in `box_types`.
 ghost use mathlib.Core.Path.{_≡_};
 ghost use Rattle.transform_boxes.specs.Bbox.{transformRectBbox};
 use geometry::rect::Rect;

@@ -1,4 +1,5 @@
-// The rework of the places that a commit visits, one after the other over lent tables (tree.rs: update_world_subtree).
+// The rework of the places that a commit visits, one after the other over lent tables (tree.rs: update_world_subtree). A tree is large, so
+// nothing but its tables is handed on.
 ghost use mathlib.Core.Path.{_≡_};
 ghost use mathlib.Core.List.{List};
 ghost use Prim.Native.Nat.{_+_, _<_, _≤_};

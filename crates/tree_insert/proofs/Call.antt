@@ -29,10 +29,10 @@ use Rattle.tree_nodes.proofs.Lengths.{Told, sized}
 use Rattle.tree_nodes.proofs.Nodes.{Held, checked-accepted, held-accepted, live-node}
 use Rattle.tree_changes.proofs.Handed.{whole}
 use Rattle.keep_calls.proofs.Links.{new-low}
-use Rattle.insert_slots.specs.Slots.{idOf}
+use Rattle.node_slots.specs.Slots.{idOf}
 use Rattle.tree_insert.specs.declared.AfterInsert.{AfterInsert}
 use Rattle.tree_insert.specs.declared.Inserted.the-variants as inserts
-use Rattle.tree_insert.specs.Insert.{insertedNumber, inserted, insertCall, insertDone, Placed}
+use Rattle.tree_insert.specs.Insert.{insertedNumber, inserted, insertCall, Placed}
 
 -- ---- its place
 
@@ -74,6 +74,10 @@ room-of t parent v g e =
     }
 
 -- ---- the answer
+
+-- what a call that nothing refuses answers and leaves
+abbrev pub insertDone : Tree → OptionNodeId → LocalNode → AfterInsert
+insertDone t parent v = record { answer = inserts.Node (newId t); tree = insertTree t parent v }
 
 module _ (t : Tree) (parent : OptionNodeId) (v : LocalNode) (w : Verdict) (e : w ≡ insertVerdict t parent v) where
   pub refused : (r : Refusal) → w ≡ is.Refused r → let a : AfterInsert = record { answer = inserts.Refused r; tree = t } in a ≡ insertCall t parent v

@@ -31,10 +31,6 @@ insertCall t parent v =
       tree = treeIf (insertVerdict t parent v) (insertTree t parent v) t;
     }
 
--- what a call that nothing refuses answers and leaves
-abbrev pub insertDone : Tree → OptionNodeId → LocalNode → AfterInsert
-insertDone t parent v = record { answer = inserts.Node (newId t); tree = insertTree t parent v }
-
 -- the parent, if there is one, has a place
 abbrev pub Placed : Tree → OptionNodeId → Type 0
 Placed t node.None = Unit {0}

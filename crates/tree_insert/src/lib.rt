@@ -10,12 +10,12 @@ ghost use Rattle.tree_insert.specs.Insert as spec;
 use box_types::LocalNode;
 use box_types::OptionNodeId;
 use boxes::NodeId;
-use insert_slots::next_id;
-use insert_slots::take_slot;
 use links::Links;
 use local_stores::clear_boxes;
 use local_stores::store_local;
 use local_stores::without_key;
+use node_slots::next_id;
+use node_slots::take_slot;
 use tree_state::Refusal;
 use tree_state::Tree;
 use tree_state::Verdict;
@@ -53,7 +53,7 @@ fn link_parent(t: Tree, parent: OptionNodeId, x: u32) -> Links
 pub fn insert(t: Tree, parent: OptionNodeId, local: LocalNode) -> AfterInsert
     ensures { λ r. ⌜ r ≡ spec.insertCall t parent local ⌝ }
 {
-    let v = insert_tests::test(t, parent, local);
+    let v = insert_verdict::test(t, parent, local);
     match v {
         Verdict::Accepted => {
             let slots = t.slots;

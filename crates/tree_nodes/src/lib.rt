@@ -1,6 +1,5 @@
 // Tests that the public calls share: whether the tree is sound, the node live, the parent live.
 ghost use mathlib.Core.Path.{_≡_};
-ghost use mathlib.Core.Bool.{true};
 ghost use Prim.Native.Nat.{_≤_};
 ghost use lib.ListN.{length};
 ghost use Rattle.tree_state.specs.declared.Refusal.the-variants as no;

@@ -6,4 +6,4 @@ pub use set_boxes::set_local_bounds;
 pub use set_clips::set_local_clip;
 pub use set_levels::set_flags;
 pub use set_levels::set_z_index;
-pub use set_places::set_local_transform;
+pub use set_transforms::set_local_transform;

@@ -51,9 +51,9 @@ pub fn sound_tables<'a>(
     if !index {
         return false;
     }
-    let values = sound_parts::values_right(order, n, bounds, slop, transform, kind, clip, flags);
+    let values = sound_walks::values_right(order, n, bounds, slop, transform, kind, clip, flags);
     let marks = sound_nodes::marks_right(order, n, marked, moved, clipped);
-    let owners = sound_parts::owners_right(
+    let owners = sound_walks::owners_right(
         order,
         n,
         committed,
@@ -64,10 +64,10 @@ pub fn sound_tables<'a>(
         generation,
         payload,
     );
-    let new = sound_parts::new_right(order, n, committed, world, hit, moved, clipped);
+    let new = sound_walks::new_right(order, n, committed, world, hit, moved, clipped);
     let entries = sound_entries::entries_right(&live.times, committed, slot, mark, payload, taken);
-    let removed = sound_parts::count_removed(mark, taken);
-    let owning = sound_parts::count_committed(order, n, committed);
+    let removed = sound_walks::count_removed(mark, taken);
+    let owning = sound_walks::count_committed(order, n, committed);
     let few = (pending <= removed) & (removed + owning <= 256);
     shape & (values & (marks & (owners & new)) & (entries & few))
 }
