@@ -24,7 +24,7 @@ use Rattle.tree_state.specs.declared.Verdict.{Verdict}
 use Rattle.tree_state.specs.declared.Verdict.the-variants as is
 use Rattle.tree_state.specs.Tree.{checked, numberOf, numberIn, placeOf}
 use Rattle.tree_steps.specs.Setters.{held, markBoth}
-use Rattle.tree_steps.specs.Structure.{slotOf, parentLive, insertVerdict, takeSlot, linkNew, storeLocal, clearBoxes, withoutKey, insertTree}
+use Rattle.tree_steps.specs.Structure.{slotOf, newId, parentLive, insertVerdict, takeSlot, linkNew, storeLocal, clearBoxes, withoutKey, insertTree}
 use Rattle.tree_nodes.proofs.Lengths.{Told, sized}
 use Rattle.tree_nodes.proofs.Nodes.{Held, checked-accepted, held-accepted, live-node}
 use Rattle.tree_changes.proofs.Handed.{whole}
