@@ -5,13 +5,13 @@ use mathlib.Core.Bool.{Bool, true, false}
 use mathlib.Core.List.{reverse}
 use Prim.Native.Nat.{ℕ, _≤_}
 use lib.ListN.{take}
-use Rattle.boxes.specs.declared.Aabb2D.{Aabb2D}
-use Rattle.boxes.specs.Boxes.{aabbEq}
-use Rattle.cells.specs.Cells.{boxAt}
+use Rattle.index_types.specs.declared.Aabb2D.{Aabb2D}
+use Rattle.index_types.specs.Boxes.{aabbEq}
+use Rattle.index_types.specs.flat_tables.Tables.{boxAt}
 use Rattle.counting.specs.Times.{times}
-use Rattle.forest.specs.Forest.{has}
+use Rattle.link_forest.specs.Forest.{has}
 use Rattle.index_commit.proofs.Agree.{Agree}
-use Rattle.box_types.specs.Local.{rectToAabb}
+use Rattle.tree_types.specs.Local.{rectToAabb}
 use Rattle.tree_state.specs.declared.Tree.{Tree}
 use Rattle.tree_state.specs.Tree.{generationAt, localAt, markedAt, transformChangedAt, clipChangedAt, committedAt, keyAt, storedPlace, storedBounds, storedHitBounds, entryMark, isRemoved}
 use Rattle.tree_state.specs.Sound.{SoundTree}

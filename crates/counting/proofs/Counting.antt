@@ -10,16 +10,16 @@ use borrow.Author.Tests.{eq-eqb, ne-eqb}
 use lib.Dec.{eqb}
 use lib.ListN.{length, take, drop, getD, set}
 use lib.Seq.{take-suc, take-add, take-suc-set}
-use Rattle.counting.specs.Times.{one, times}
+use Rattle.counting.specs.Times.{tally, times}
 
-pub one-small : (b : Bool) → one b ≤ 1
-one-small true = omega arith
-one-small false = omega arith
+pub tally-small : (b : Bool) → tally b ≤ 1
+tally-small true = omega arith
+tally-small false = omega arith
 
-pub hit : (a : ℕ) → one (eqb a a) ≡ 1
+pub hit : (a : ℕ) → tally (eqb a a) ≡ 1
 hit a = rw (eq-eqb a a refl)
 
-pub miss : (x a : ℕ) → (x ≡ a → ⊥) → one (eqb x a) ≡ 0
+pub miss : (x a : ℕ) → (x ≡ a → ⊥) → tally (eqb x a) ≡ 0
 miss x a n = rw (ne-eqb x a n)
 
 pub times-append : (x : ℕ) (a b : List ℕ) → times x (a ++ b) ≡ times x a + times x b
@@ -27,15 +27,15 @@ unfolding times
 times-append x [] b = omega arith
 times-append x (y ∷ a) b = rw (times-append x a b) (omega arith)
 
-pub times-snoc : (x : ℕ) (a : List ℕ) (y : ℕ) → times x (a ++ (y ∷ [])) ≡ times x a + one (eqb x y)
+pub times-snoc : (x : ℕ) (a : List ℕ) (y : ℕ) → times x (a ++ (y ∷ [])) ≡ times x a + tally (eqb x y)
 unfolding times
 times-snoc x a y = rw (times-append x a (y ∷ [])) (omega arith)
 
 -- one more of a list; and with what is put there
-pub times-next : (x : ℕ) (l : List ℕ) (i : ℕ) → i < length l → times x (take (i + 1) l) ≡ times x (take i l) + one (eqb x (getD l i 0))
+pub times-next : (x : ℕ) (l : List ℕ) (i : ℕ) → i < length l → times x (take (i + 1) l) ≡ times x (take i l) + tally (eqb x (getD l i 0))
 times-next x l i h = rw (add-one i, take-suc l i 0 h) (times-snoc x (take i l) (getD l i 0))
 
-pub times-put : (x : ℕ) (l : List ℕ) (i a : ℕ) → i < length l → times x (take (i + 1) (set l i a)) ≡ times x (take i l) + one (eqb x a)
+pub times-put : (x : ℕ) (l : List ℕ) (i a : ℕ) → i < length l → times x (take (i + 1) (set l i a)) ≡ times x (take i l) + tally (eqb x a)
 times-put x l i a h = rw (add-one i, take-suc-set l i a h) (times-snoc x (take i l) a)
 
 pub times-more : (x : ℕ) (l : List ℕ) (i n : ℕ) → i ≤ n → times x (take i l) ≤ times x (take n l)
@@ -63,11 +63,11 @@ sum-zero : (n : ℕ) → sumTo n (λ _. 0) ≡ 0
 sum-zero zero = refl
 sum-zero (suc n) = rw (sum-zero n) (omega arith)
 
-sum-none : (n y : ℕ) → n ≤ y → sumTo n (λ x. one (eqb x y)) ≡ 0
+sum-none : (n y : ℕ) → n ≤ y → sumTo n (λ x. tally (eqb x y)) ≡ 0
 sum-none zero y h = refl
 sum-none (suc n) y h = omega (arith, sum-none n y (omega arith), miss n y (λ e. omega arith))
 
-sum-one : (n y : ℕ) → y < n → sumTo n (λ x. one (eqb x y)) ≡ 1
+sum-one : (n y : ℕ) → y < n → sumTo n (λ x. tally (eqb x y)) ≡ 1
 sum-one zero y h = absurd (omega arith)
 sum-one (suc n) y h =
     elim (ℕ-discrete n y) [
@@ -92,7 +92,7 @@ unfolding times
 length-sum n [] h = sym (sum-zero n)
 length-sum n (y ∷ l) h =
     let le : y < n = elim (decLt y n) [ yes l ↦ l | no m ↦ absurd (omega (arith, h y (omega arith), hit y)) ] in
-    omega (arith, sum-add n (λ x. one (eqb x y)) (λ x. times x l), sum-one n y le, length-sum n l (λ x g. omega (arith, h x g)))
+    omega (arith, sum-add n (λ x. tally (eqb x y)) (λ x. times x l), sum-one n y le, length-sum n l (λ x g. omega (arith, h x g)))
 
 -- a list whose numbers lie below n, none twice, and one of them not in it, is shorter than n
 pub shorter : (n a : ℕ) (l : List ℕ) → ((x : ℕ) → times x l ≤ 1) → ((x : ℕ) → n ≤ x → times x l ≡ 0) → a < n → times a l ≡ 0 → length l < n

@@ -1,3 +1,4 @@
 pub mod Counting
 pub mod Kit
 pub mod Words
+pub mod Counts

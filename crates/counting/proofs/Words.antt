@@ -8,9 +8,9 @@ use native.Mathlib.Omega.{arith}
 use native.Mathlib.Decide.{decLt, ℕ-discrete}
 use lib.Dec.{eqb, ltb, leb}
 use lib.ListN.{length, take, getD}
-use Rattle.counting.specs.Times.{one, times}
+use Rattle.counting.specs.Times.{times}
 use Rattle.counting.specs.Lists.{Tells, Listed, Once, onceBelow}
-use Rattle.counting.proofs.Counting.{one-small, miss, times-next, times-at}
+use Rattle.counting.proofs.Counting.{tally-small, miss, times-next, times-at}
 use Rattle.counting.proofs.Kit.{both, at-most, less, equal, every-tells, through}
 
 module _ (l : List ℕ) where
@@ -36,7 +36,7 @@ module _ (l : List ℕ) where
       elim (ℕ-discrete x (getD l n 0)) [
         | yes e ↦
             elim (decLt (times x (take n l)) 1) [
-              | yes z ↦ omega (arith, one-small (eqb x (getD l n 0)))
+              | yes z ↦ omega (arith, tally-small (eqb x (getD l n 0)))
               | no g ↦
                   let w = find n (omega arith) x (omega arith) in
                   absurd (omega (arith, w .1, once (w .0) n (omega (arith, w .1)) (omega arith) (w .2 ∙ e)))

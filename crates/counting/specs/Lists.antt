@@ -4,7 +4,7 @@ use mathlib.Core.Path.{_≡_}
 use mathlib.Core.Bool.{Bool, true, _&&_}
 use mathlib.Core.List.{List}
 use lib.Dec.{ltb, leb, eqb}
-use lib.ListN.{take, getD, length}
+use lib.ListN.{take, getD}
 use Rattle.counting.specs.Times.{times, every}
 
 -- a test's answer, both ways

@@ -5,13 +5,13 @@ use mathlib.Core.List.{List, [], _∷_}
 use lib.Dec.{eqb}
 
 -- 1 for true
-abbrev pub one : Bool → ℕ
-one true = 1
-one false = 0
+abbrev pub tally : Bool → ℕ
+tally true = 1
+tally false = 0
 
 unfoldable pub times : ℕ → List ℕ → ℕ
 times x [] = 0
-times x (y ∷ ys) = one (eqb x y) + times x ys
+times x (y ∷ ys) = tally (eqb x y) + times x ys
 
 unfoldable pub every : ℕ → (ℕ → Bool) → Bool
 every zero p = true

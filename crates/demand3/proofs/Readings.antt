@@ -4,11 +4,11 @@ use mathlib.Core.Path.{_≡_}
 use mathlib.Core.Bool.{true, false}
 use mathlib.Core.List.{List}
 use Prim.Native.Nat.{ℕ}
-use Rattle.boxes.specs.declared.NodeId.{NodeId}
-use Rattle.forest.specs.Forest.{has}
+use Rattle.index_types.specs.declared.NodeId.{NodeId}
+use Rattle.link_forest.specs.Forest.{has}
 use Rattle.tree_state.specs.Tree as tree
-use Rattle.agree_calls.proofs.Tests.{live-same, needs-same}
-use Rattle.agree_worlds.proofs.Committed.{Afresh, calm-right}
+use Rattle.agreement_calls.proofs.Tests.{live-same, needs-same}
+use Rattle.agreement.proofs.worlds.Committed.{Afresh, calm-right}
 use Rattle.plan.specs.Plan as plan
 use Rattle.plan.specs.Calls as call
 use Rattle.plan.specs.Calls.{Call}

@@ -8,8 +8,8 @@ use native.Mathlib.Omega.{arith}
 use native.Mathlib.Decide.{ℕ-discrete}
 use borrow.Author.Tests.{ne-eqb, eq-eqb, lt-leb}
 use lib.ListN.{length, getD, take}
-use Rattle.index_entries.proofs.Slots.{slot-unused}
-use Rattle.understory_index.specs.Index as index
+use Rattle.index_entries.proofs.Found.{slot-unused}
+use Rattle.index_state.specs.Index as index
 use Rattle.tree_state.specs.declared.Tree.{Tree}
 use Rattle.tree_state.specs.declared.Verdict.the-variants as is
 use Rattle.tree_state.specs.Tree.{freshTree, committedAt}
@@ -17,17 +17,17 @@ use Rattle.tree_state.specs.Sound.{SoundTree, soundTree}
 use Rattle.tree_sound.proofs.Exact.{decides}
 use Rattle.tree_steps.specs.Commit.{visitsOf, reworkAll, begun, commitTree}
 use Rattle.tree_laws.proofs.Whole.{Whole, sized, whole-fresh}
-use Rattle.tree_fits.specs.Fits.{slotAt}
-use Rattle.keep_calls.proofs.Setters as setters
-use Rattle.keep_calls.proofs.Insert.{keep-insert}
-use Rattle.keep_calls.proofs.Reparent.{keep-reparent}
-use Rattle.keep_remove.proofs.Keep.{keep-remove}
-use Rattle.keep_commit.proofs.Keep.{ready, few, keep-commit}
-use Rattle.keep_commit.proofs.After.{Calm, after-commit}
-use Rattle.agree_calls.proofs.Fresh.{sound-fresh}
-use Rattle.agree_worlds.proofs.Committed.{Afresh}
-use Rattle.agree_worlds.proofs.Committed as committed
-use Rattle.agree_commit.proofs.Visited.{visited-linked}
+use Rattle.tree_rework.specs.preconditions.Fits.{slotAt}
+use Rattle.tree_invariant.proofs.calls.Setters as setters
+use Rattle.tree_invariant.proofs.calls.Insert.{keep-insert}
+use Rattle.tree_invariant.proofs.calls.Reparent.{keep-reparent}
+use Rattle.tree_invariant.proofs.remove.Keep.{keep-remove}
+use Rattle.tree_invariant.proofs.commit.Keep.{ready, few, keep-commit}
+use Rattle.tree_invariant.proofs.commit.After.{Calm, after-commit}
+use Rattle.agreement_calls.proofs.Fresh.{sound-fresh}
+use Rattle.agreement.proofs.worlds.Committed.{Afresh}
+use Rattle.agreement.proofs.worlds.Committed as committed
+use Rattle.agreement_calls.proofs.commit.Visited.{visited-linked}
 use Rattle.tree_run.specs.Run as tree
 use Rattle.plan.specs.Plan.{Plan, empty}
 use Rattle.plan.specs.Calls as call

@@ -7,21 +7,21 @@ use mathlib.Core.List.{List, [], _∷_}
 use Prim.Native.Nat.{ℕ, zero, suc}
 use native.Mathlib.Omega.{arith}
 use Rattle.geometry.specs.Rectangle.{rectEq, insetsEq}
-use Rattle.transforms.specs.Transform.{affineEq}
-use Rattle.clips.specs.Clips.{constructed, clipEq}
-use Rattle.boxes.specs.declared.NodeId.{NodeId}
-use Rattle.box_types.specs.declared.NodeFlags.{NodeFlags}
-use Rattle.box_types.specs.declared.LocalNode.{LocalNode}
-use Rattle.box_types.specs.declared.OptionNodeId.{OptionNodeId}
-use Rattle.box_types.specs.declared.OptionNodeId.the-variants as node
-use Rattle.forest.specs.Forest.{has}
-use Rattle.forest.proofs.Counting.{has-parts}
+use Rattle.geometry.specs.Transform.{affineEq}
+use Rattle.geometry_clips.specs.Clips.{constructed, clipEq}
+use Rattle.index_types.specs.declared.NodeId.{NodeId}
+use Rattle.tree_types.specs.declared.NodeFlags.{NodeFlags}
+use Rattle.tree_types.specs.declared.LocalNode.{LocalNode}
+use Rattle.tree_types.specs.declared.OptionNodeId.{OptionNodeId}
+use Rattle.tree_types.specs.declared.OptionNodeId.the-variants as node
+use Rattle.link_forest.specs.Forest.{has}
+use Rattle.link_forest.proofs.Counting.{has-parts}
 use Rattle.tree_state.specs.declared.Tree.{Tree}
 use Rattle.tree_state.specs.declared.Refusal.{Refusal}
 use Rattle.tree_state.specs.declared.Refusal.the-variants as no
 use Rattle.tree_state.specs.declared.Verdict.{Verdict}
 use Rattle.tree_state.specs.declared.Verdict.the-variants as is
-use Rattle.tree_state.specs.Tree.{freshTree, numberOf, numberIn, placeOf}
+use Rattle.tree_state.specs.Tree.{freshTree, numberOf, numberIn, positionOf}
 use Rattle.tree_steps.specs.Setters as set
 use Rattle.tree_steps.specs.Structure as structure
 use Rattle.tree_steps.specs.Requests as request
@@ -30,22 +30,23 @@ use Rattle.plan.specs.Plan as plan
 use Rattle.plan.specs.Plan.{Plan, empty}
 use Rattle.plan.specs.Afresh as afresh
 use Rattle.plan.specs.Calls as call
+use Rattle.tree_types.specs.Local as local
 use Rattle.plan.specs.Calls.{Call, Reading, Request}
 use Rattle.plan.specs.Demand as demand
 use Rattle.plan.specs.Demand.{Demand3, run, outcomes}
 use Rattle.plan.proofs.Redaction.{redacted-same}
 use Rattle.agreement.proofs.Same.{Known}
-use Rattle.agree_calls.proofs.Verdicts as refused
-use Rattle.agree_calls.proofs.Fresh.{known-fresh}
-use Rattle.agree_calls.proofs.Setters as setter
-use Rattle.agree_calls.proofs.Insert as insert
-use Rattle.agree_calls.proofs.Reparent as reparent
-use Rattle.keep_remove.proofs.Agree.{same-remove}
-use Rattle.agree_worlds.proofs.Entries.{Entered}
-use Rattle.agree_worlds.proofs.Others as entered
-use Rattle.agree_commit.proofs.Known.{commit-known, commit-entered}
-use Rattle.agree_requests.proofs.Answers.{answered, accepted-same}
-use Rattle.agree_requests.proofs.Tap.{tapOf}
+use Rattle.agreement_calls.proofs.Verdicts as refused
+use Rattle.agreement_calls.proofs.Fresh.{known-fresh}
+use Rattle.agreement_calls.proofs.Setters as setter
+use Rattle.agreement_calls.proofs.Insert as insert
+use Rattle.agreement_calls.proofs.Reparent as reparent
+use Rattle.tree_invariant.proofs.remove.Agree.{same-remove}
+use Rattle.agreement.proofs.worlds.Entries.{Entered}
+use Rattle.agreement.proofs.worlds.Others as entered
+use Rattle.agreement_calls.proofs.commit.Known.{commit-known, commit-entered}
+use Rattle.agreement_calls.proofs.requests.Answers.{answered, accepted-same}
+use Rattle.agreement_calls.proofs.requests.Tap.{tapOf}
 
 -- ---- what every call keeps
 
@@ -124,7 +125,7 @@ accepted-meets t p M (call.remove i) e =
     record {
       known = same-remove t p i (M .known) e;
       entered =
-          entered.entered-remove t (p .links) (plan.removed p (i .0) .links) (M .entered) (placeOf t (i .0))
+          entered.entered-remove t (p .links) (plan.removed p (i .0) .links) (M .entered) (positionOf t (i .0))
           (λ y h. removed-was p (i .0) (setter.of-node t p (M .known) i e) y h);
     }
 accepted-meets t p M (call.reparent i o) e =
@@ -137,7 +138,7 @@ accepted-meets t p M (call.set-local-transform i a) e =
     record {
       known = setter.transform-known t p (M .known) i a e;
       entered =
-          entered-set (set.setTransform t (i .0) a) (affineEq (v .«local_transform») a) p (i .0) (call.withTransform a v) plan.markTransform
+          entered-set (set.setTransform t (i .0) a) (affineEq (v .«local_transform») a) p (i .0) (local.withTransform a v) plan.markTransform
           (entered.entered-transform t (p .links) (M .entered) (i .0) a);
     }
 accepted-meets t p M (call.set-local-clip i c) e =
@@ -145,7 +146,7 @@ accepted-meets t p M (call.set-local-clip i c) e =
     record {
       known = setter.clip-known t p (M .known) i c e;
       entered =
-          entered-set (set.setClip t (i .0) c) (clipEq (v .«local_clip») (constructed c)) p (i .0) (call.withClip (constructed c) v) plan.markClip
+          entered-set (set.setClip t (i .0) c) (clipEq (v .«local_clip») (constructed c)) p (i .0) (local.withClip (constructed c) v) plan.markClip
           (entered.entered-clip t (p .links) (M .entered) (i .0) c);
     }
 accepted-meets t p M (call.set-local-bounds i r) e =
@@ -153,7 +154,7 @@ accepted-meets t p M (call.set-local-bounds i r) e =
     record {
       known = setter.bounds-known t p (M .known) i r e;
       entered =
-          entered-set (set.setBounds t (i .0) r) (rectEq (v .«local_bounds») r) p (i .0) (call.withBounds r v) plan.markAlone
+          entered-set (set.setBounds t (i .0) r) (rectEq (v .«local_bounds») r) p (i .0) (local.withBounds r v) plan.markAlone
           (entered.entered-bounds t (p .links) (M .entered) (i .0) r);
     }
 accepted-meets t p M (call.set-hit-slop i s) e =
@@ -161,7 +162,7 @@ accepted-meets t p M (call.set-hit-slop i s) e =
     record {
       known = setter.slop-known t p (M .known) i s e;
       entered =
-          entered-set (set.setSlop t (i .0) s) (insetsEq (v .«hit_slop») s) p (i .0) (call.withSlop s v) plan.markAlone
+          entered-set (set.setSlop t (i .0) s) (insetsEq (v .«hit_slop») s) p (i .0) (local.withSlop s v) plan.markAlone
           (entered.entered-slop t (p .links) (M .entered) (i .0) s);
     }
 accepted-meets t p M (call.set-z-index i z) e =

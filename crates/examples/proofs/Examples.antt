@@ -1,50 +1,40 @@
 -- Document 01's examples P1 to P12, a row each, as one theorem. Rows about taps, ids and refusals speak of the tree's own run from fresh and go by
 -- demand 3, so the plan computes them.
 use mathlib.Core.Path.{_≡_, refl, _∙_}
-use mathlib.Core.Bool.{Bool, true, false}
-use mathlib.Core.List.{List, [], _∷_, map}
+use mathlib.Core.Bool.{true, false}
+use mathlib.Core.List.{List, [], _∷_}
 use Prim.Native.Nat.{ℕ}
-use lib.IntN.{pos}
 use lib.ListN.{getD}
-use lib.Ieee.{Float, binary64, ofInt, round, units, odd, size, span, climb, neg, add, sub, mul, div, eq, le, lt, isNan}
+use lib.Ieee.{binary64, round}
 use Rattle.numbers.specs.Rounded.{zero}
-use Rattle.numbers.specs.Number.{minimum, maximum, magnitude}
-use Rattle.geometry_parts.specs.declared.point.Point.{Point}
-use Rattle.geometry.specs.Rectangle.{rect, ordered, intersection, contains, plusInsets, noInsets, finiteRect, finiteInsets}
-use Rattle.transforms.specs.Transform.{mapped, product, inverse, finiteAffine}
-use Rattle.transform_boxes.specs.Bbox.{transformRectBbox}
-use Rattle.clips.specs.Clips.{clipRect, clipRadii, fitted, shaped, constructed, quadrant, excess, insideRounded, inside, finiteClipRect, finiteClip}
-use Rattle.boxes.specs.declared.NodeId.{NodeId}
-use Rattle.boxes.specs.Boxes.{containsPoint}
-use Rattle.worlds.specs.World.{image, meetOwn, meet, clipped, placed, worldBox, hitBox, reached}
-use Rattle.box_types.specs.declared.NodeFlags.{NodeFlags}
-use Rattle.box_types.specs.declared.OptionNodeId.{OptionNodeId}
-use Rattle.box_types.specs.declared.OptionNodeId.the-variants as node
-use Rattle.box_types.specs.Local.{flags, hasAll, finiteLocal, stored}
-use Rattle.forest.specs.Forest.{pre, post, has, cat, under, remove, roots, spot}
-use Rattle.understory_index.specs.Index as index
-use Rattle.understory_index.specs.Run as list
+use Rattle.geometry.specs.declared.point.Point.{Point}
+use Rattle.geometry.specs.Rectangle.{rect}
+use Rattle.index_types.specs.declared.NodeId.{NodeId}
+use Rattle.tree_types.specs.declared.NodeFlags.{NodeFlags}
+use Rattle.tree_types.specs.declared.OptionNodeId.{OptionNodeId}
+use Rattle.tree_types.specs.declared.OptionNodeId.the-variants as node
+use Rattle.tree_types.specs.Local.{flags}
+use Rattle.index_state.specs.Index as index
+use Rattle.index_state.specs.Run as list
 use Rattle.index_rows.proofs.Rows as entries
-use Rattle.tree_state.specs.Tree.{freshTree, placeOf}
+use Rattle.tree_state.specs.Tree.{freshTree, positionOf}
 use Rattle.tree_steps.specs.Commit.{commitTree}
 use Rattle.tree_steps.specs.Readings.{childrenOf, nextOf}
 use Rattle.tree_run.specs.Run as tree
 use Rattle.tree_rows.proofs.Rows.{after}
-use Rattle.damage_rows.proofs.Damage as rows
-use Rattle.plan.specs.Lists.{keep, any, joined, insertSorted, sorted}
-use Rattle.plan.specs.Plan.{Plan, empty, needsCommit, inserted, removed, moved}
-use Rattle.plan.specs.Visits.{starts, visits, enter, committed}
-use Rattle.plan.specs.Afresh.{worldPlace, placedOn, worldBounds, worldHitBounds, inClips, candidate, larger, largest, nothing, hit, tap, redactLocal, redact}
+use Rattle.tree_rows.proofs.damage.Damage as rows
+use Rattle.plan.specs.Plan.{Plan, empty}
+use Rattle.plan.specs.Afresh.{worldBounds, candidate, nothing, hit, redact}
 use Rattle.plan.specs.Calls as call
-use Rattle.plan.specs.Calls.{Call, Outcome, lowest, refusal, accepted, step, outcome}
+use Rattle.plan.specs.Calls.{Call, Outcome, step, outcome}
 use Rattle.plan.specs.Demand.{Answer, tapped, run, outcomes, answer}
-use Rattle.plan.proofs.Rows.{num, point, id, local, ten, turn, shifted, root, child, settle, a, b, c, halfClip}
-use Rattle.sheet_lines.specs.Lines as lines
-use Rattle.plan_sheet.specs.Sheet as sheet
-use Rattle.plan_sheet.specs.Sheet.{readSheet}
-use Rattle.sheet_calls.specs.Calls as calls
+use Rattle.plan.proofs.Cases as cases
+use Rattle.plan.proofs.Rows.{num, point, id, root, child, settle, a, b, c, halfClip}
+use Rattle.sheet_format.specs.Sheet as sheet
+use Rattle.sheet_format.specs.Sheet.{readSheet}
+use Rattle.sheet_calls.proofs.Rows as sheets
 use Rattle.sheet_calls.specs.Calls.{callsOf}
-use Rattle.sheet_calls.specs.Answers.{bytes, output, planOf, tapOn, digitsUpTo, decimal, lineOf, tapLines, sheetText}
+use Rattle.sheet_calls.specs.Answers.{bytes, output}
 use Rattle.demand3.proofs.Theorem.{demand-3}
 use Rattle.examples.proofs.Flat.{Flat, no-candidate}
 
@@ -77,7 +67,7 @@ pub record Examples : Type 0 where
   pub p1 : commitTree freshTree .damage ≡ []
   -- First insert: id (0, 1); committed depth 1.
   pub p2 : (answers (root ∷ settle ∷ []) ≡ given (id 0 1) ∷ told 0 node.None ∷ [])
-      × (getD (after (root ∷ settle ∷ []) .links .depth) (placeOf (after (root ∷ settle ∷ [])) 0) 0 ≡ 1)
+      × (getD (after (root ∷ settle ∷ []) .links .depth) (positionOf (after (root ∷ settle ∷ [])) 0) 0 ≡ 1)
   -- A, child B; remove A; the next inserts give (0, 2), (1, 2).
   pub p3 : answers (root ∷ child a ∷ call.remove a ∷ root ∷ root ∷ [])
       ≡ given (id 0 1) ∷ given (id 1 1) ∷ told 0 node.None ∷ given (id 0 2) ∷ given (id 1 2) ∷ []
@@ -122,26 +112,26 @@ unfolding after
 tap-by-plan cs pt r e = demand-3 .answered cs (flags 3) 512 (call.hit-test-point pt) ∙ e
 
 ids-2 : answers (root ∷ settle ∷ []) ≡ given (id 0 1) ∷ told 0 node.None ∷ []
-unfolding num point id local ten turn shifted root child settle a b c halfClip run outcomes step refusal lowest accepted inserted removed moved committed needsCommit starts visits enter keep any joined insertSorted sorted pre post has cat under remove roots spot hasAll finiteLocal stored finiteRect finiteInsets finiteAffine finiteClip finiteClipRect constructed clipRect clipRadii fitted shaped quadrant excess insideRounded inside ordered intersection contains plusInsets noInsets mapped product inverse transformRectBbox containsPoint image meetOwn meet clipped placed worldBox hitBox reached placedOn worldBounds worldHitBounds inClips candidate larger largest tap redactLocal redact minimum maximum magnitude round units odd size span climb neg add sub mul div eq le lt isNan outcome answer
+unfolding cases.computed
 ids-2 = by-plan (root ∷ settle ∷ []) (given (id 0 1) ∷ told 0 node.None ∷ []) refl
 
 ids-3 : answers (root ∷ child a ∷ call.remove a ∷ root ∷ root ∷ [])
     ≡ given (id 0 1) ∷ given (id 1 1) ∷ told 0 node.None ∷ given (id 0 2) ∷ given (id 1 2) ∷ []
-unfolding num point id local ten turn shifted root child settle a b c halfClip run outcomes step refusal lowest accepted inserted removed moved committed needsCommit starts visits enter keep any joined insertSorted sorted pre post has cat under remove roots spot hasAll finiteLocal stored finiteRect finiteInsets finiteAffine finiteClip finiteClipRect constructed clipRect clipRadii fitted shaped quadrant excess insideRounded inside ordered intersection contains plusInsets noInsets mapped product inverse transformRectBbox containsPoint image meetOwn meet clipped placed worldBox hitBox reached placedOn worldBounds worldHitBounds inClips candidate larger largest tap redactLocal redact minimum maximum magnitude round units odd size span climb neg add sub mul div eq le lt isNan outcome answer
+unfolding cases.computed
 ids-3 =
     by-plan (root ∷ child a ∷ call.remove a ∷ root ∷ root ∷ [])
     (given (id 0 1) ∷ given (id 1 1) ∷ told 0 node.None ∷ given (id 0 2) ∷ given (id 1 2) ∷ []) refl
 
 refused-4 : answers (root ∷ child a ∷ call.reparent a (node.Some b) ∷ call.reparent a (node.Some a) ∷ [])
     ≡ given a ∷ given b ∷ told 4 node.None ∷ told 4 node.None ∷ []
-unfolding num point id local ten turn shifted root child settle a b c halfClip run outcomes step refusal lowest accepted inserted removed moved committed needsCommit starts visits enter keep any joined insertSorted sorted pre post has cat under remove roots spot hasAll finiteLocal stored finiteRect finiteInsets finiteAffine finiteClip finiteClipRect constructed clipRect clipRadii fitted shaped quadrant excess insideRounded inside ordered intersection contains plusInsets noInsets mapped product inverse transformRectBbox containsPoint image meetOwn meet clipped placed worldBox hitBox reached placedOn worldBounds worldHitBounds inClips candidate larger largest tap redactLocal redact minimum maximum magnitude round units odd size span climb neg add sub mul div eq le lt isNan outcome answer
+unfolding cases.computed
 refused-4 =
     by-plan (root ∷ child a ∷ call.reparent a (node.Some b) ∷ call.reparent a (node.Some a) ∷ [])
     (given a ∷ given b ∷ told 4 node.None ∷ told 4 node.None ∷ []) refl
 
 sheet-6 : (worldBounds (run step empty (callsIn (readSheet exampleSheet))) 1 ≡ rect (num 80) zero (num 100) (num 40))
     × (output exampleSheet ≡ bytes "4\n1 2 2\n2 2 2\n3 1 1\n4 0 0\n")
-unfolding num point id local ten turn shifted root child settle a b c halfClip run outcomes step refusal lowest accepted inserted removed moved committed needsCommit starts visits enter keep any joined insertSorted sorted pre post has cat under remove roots spot hasAll finiteLocal stored finiteRect finiteInsets finiteAffine finiteClip finiteClipRect constructed clipRect clipRadii fitted shaped quadrant excess insideRounded inside ordered intersection contains plusInsets noInsets mapped product inverse transformRectBbox containsPoint image meetOwn meet clipped placed worldBox hitBox reached placedOn worldBounds worldHitBounds inClips candidate larger largest tap redactLocal redact minimum maximum magnitude round units odd size span climb neg add sub mul div eq le lt isNan outcome answer output planOf tapOn digitsUpTo decimal lineOf tapLines sheetText sheet.readSheet sheet.counted sheet.section sheet.judge sheet.placeOf sheet.clipOf sheet.tapOf sheet.placeInRange sheet.clipInRange sheet.tapInRange sheet.parentEarlier sheet.clippedBefore sheet.clipPlaceOpen lines.cut lines.fields lines.numbersOf lines.wordsOf lines.decimal lines.positive lines.digitsAfter calls.turns calls.orientation calls.clipOn calls.clipFor calls.localOf calls.insertOf calls.insertsFrom calls.callsOf ofInt
+unfolding cases.computed sheets.computed
 sheet-6 = (refl, refl)
 
 -- a tap of the example's tree
@@ -153,18 +143,18 @@ sheet-taps : (tapAt (callsIn (readSheet exampleSheet)) (point 90 10) ≡ tapped 
     × (tapAt (callsIn (readSheet exampleSheet)) (point 100 10) ≡ tapped (hit b (a ∷ b ∷ [])))
     × (tapAt (callsIn (readSheet exampleSheet)) (point 80 10) ≡ tapped (hit a (a ∷ [])))
     × (tapAt (callsIn (readSheet exampleSheet)) (point 200 200) ≡ tapped nothing)
-unfolding num point id local ten turn shifted root child settle a b c halfClip run outcomes step refusal lowest accepted inserted removed moved committed needsCommit starts visits enter keep any joined insertSorted sorted pre post has cat under remove roots spot hasAll finiteLocal stored finiteRect finiteInsets finiteAffine finiteClip finiteClipRect constructed clipRect clipRadii fitted shaped quadrant excess insideRounded inside ordered intersection contains plusInsets noInsets mapped product inverse transformRectBbox containsPoint image meetOwn meet clipped placed worldBox hitBox reached placedOn worldBounds worldHitBounds inClips candidate larger largest tap redactLocal redact minimum maximum magnitude round units odd size span climb neg add sub mul div eq le lt isNan outcome answer output planOf tapOn digitsUpTo decimal lineOf tapLines sheetText sheet.readSheet sheet.counted sheet.section sheet.judge sheet.placeOf sheet.clipOf sheet.tapOf sheet.placeInRange sheet.clipInRange sheet.tapInRange sheet.parentEarlier sheet.clippedBefore sheet.clipPlaceOpen lines.cut lines.fields lines.numbersOf lines.wordsOf lines.decimal lines.positive lines.digitsAfter calls.turns calls.orientation calls.clipOn calls.clipFor calls.localOf calls.insertOf calls.insertsFrom calls.callsOf ofInt
+unfolding cases.computed sheets.computed
 sheet-taps =
     (sheet-tap 90 10 (tapped (hit b (a ∷ b ∷ []))) refl, sheet-tap 100 10 (tapped (hit b (a ∷ b ∷ []))) refl, sheet-tap 80 10 (tapped (hit a (a ∷ []))) refl, sheet-tap 200 200 (tapped nothing) refl)
 
 taps-7 : (tapAt halfClip (point 10 10) ≡ tapped (hit a (a ∷ [])))
     × (tapAt halfClip (record { x = round binary64 false 21 2; y = num 10 }) ≡ tapped nothing)
-unfolding num point id local ten turn shifted root child settle a b c halfClip run outcomes step refusal lowest accepted inserted removed moved committed needsCommit starts visits enter keep any joined insertSorted sorted pre post has cat under remove roots spot hasAll finiteLocal stored finiteRect finiteInsets finiteAffine finiteClip finiteClipRect constructed clipRect clipRadii fitted shaped quadrant excess insideRounded inside ordered intersection contains plusInsets noInsets mapped product inverse transformRectBbox containsPoint image meetOwn meet clipped placed worldBox hitBox reached placedOn worldBounds worldHitBounds inClips candidate larger largest tap redactLocal redact minimum maximum magnitude round units odd size span climb neg add sub mul div eq le lt isNan outcome answer
+unfolding cases.computed halfClip
 taps-7 =
     (tap-by-plan halfClip (point 10 10) (tapped (hit a (a ∷ []))) refl, tap-by-plan halfClip (record { x = round binary64 false 21 2; y = num 10 }) (tapped nothing) refl)
 
 tap-9 : tapAt (root ∷ root ∷ call.remove a ∷ root ∷ settle ∷ []) (point 5 5) ≡ tapped (hit (id 0 2) (id 0 2 ∷ []))
-unfolding num point id local ten turn shifted root child settle a b c halfClip run outcomes step refusal lowest accepted inserted removed moved committed needsCommit starts visits enter keep any joined insertSorted sorted pre post has cat under remove roots spot hasAll finiteLocal stored finiteRect finiteInsets finiteAffine finiteClip finiteClipRect constructed clipRect clipRadii fitted shaped quadrant excess insideRounded inside ordered intersection contains plusInsets noInsets mapped product inverse transformRectBbox containsPoint image meetOwn meet clipped placed worldBox hitBox reached placedOn worldBounds worldHitBounds inClips candidate larger largest tap redactLocal redact minimum maximum magnitude round units odd size span climb neg add sub mul div eq le lt isNan outcome answer
+unfolding cases.computed
 tap-9 = tap-by-plan (root ∷ root ∷ call.remove a ∷ root ∷ settle ∷ []) (point 5 5) (tapped (hit (id 0 2) (id 0 2 ∷ []))) refl
 
 -- ---- the theorem

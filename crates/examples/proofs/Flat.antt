@@ -1,29 +1,28 @@
 -- P8: a node whose own linear part is all zero, of either sign, is no candidate of any tap: no point is mapped back to a point. Under any parent its
 -- world linear part is zero or NaN, the reciprocal of its determinant an infinity or NaN, and each coefficient of the inverse NaN.
 use mathlib.Core.Path.{_≡_, refl, sym, ap, _∙_}
-use mathlib.Core.Bool.{Bool, true, false, not, _&&_, cond, false≢true}
-use mathlib.Core.List.{List, [], _∷_}
+use mathlib.Core.Bool.{Bool, true, false, not, _&&_, false≢true}
 use Prim.Native.Nat.{ℕ, zero, suc, _+_, _-_, _*_, _<_}
 use native.Mathlib.Omega.{arith}
 use native.Mathlib.Nat.{zero-mul, mul-zero, mul-pos, zero-lt-suc, lt-irrefl}
-use lib.Dec.{T, eqb, eqb→eq}
-use lib.IntN.{ℤ, pos, negsuc}
+use lib.Dec.{eqb, eqb→eq}
+use lib.IntN.{ℤ, pos}
 use lib.Ieee.{Float, nan, inf, fin, binary64, up, down, unlike, round, units, odd, size, span, climb, neg, add, sub, sum, mul, div, lt, le, eq}
 use lib.Ieee.Fits.{up-pos, down-pos}
 use lib.Ieee.Scale.{round-same}
 use Rattle.numbers.specs.Rounded as const
 use Rattle.numbers.specs.Rounded.{_⊕_, _⊖_, _⊗_, _⊘_}
-use Rattle.geometry_parts.specs.declared.point.Point.{Point}
+use Rattle.geometry.specs.declared.point.Point.{Point}
 use Rattle.geometry.specs.declared.rect.Rect.{Rect}
-use Rattle.geometry_parts.specs.declared.insets.Insets.{Insets}
+use Rattle.geometry.specs.declared.insets.Insets.{Insets}
 use Rattle.geometry.specs.Rectangle.{contains}
-use Rattle.transforms.specs.declared.affine.Affine.{Affine}
-use Rattle.transforms.specs.Transform.{mapped, product, inverse}
-use Rattle.clips.specs.declared.clip.Clip.{Clip}
-use Rattle.worlds.specs.World.{placed, reached}
-use Rattle.box_types.specs.declared.NodeFlags.{NodeFlags}
+use Rattle.geometry.specs.declared.affine.Affine.{Affine}
+use Rattle.geometry.specs.Transform.{mapped, product, inverse}
+use Rattle.geometry_clips.specs.declared.clip.Clip.{Clip}
+use Rattle.tree_worlds.specs.World.{placed, reached}
+use Rattle.tree_types.specs.declared.NodeFlags.{NodeFlags}
 use Rattle.plan.specs.Plan.{Plan}
-use Rattle.plan.specs.Afresh.{placedOn, worldPlace, candidate}
+use Rattle.plan.specs.Afresh.{placedOn, candidate}
 
 -- a..d are 0 as numbers
 pub record Flat (t : Affine) : Type 0 where

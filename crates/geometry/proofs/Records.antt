@@ -3,15 +3,14 @@
 use mathlib.Core.Path.{_≡_}
 use mathlib.Core.Bool.{true}
 use lib.Ieee.{lt, eq}
-use lib.Ieee.Scale.{finite}
 use Rattle.numbers.specs.Rounded as const
 use Rattle.numbers.proofs.Bools.{and-left, and-right, Four, four}
 use Rattle.numbers.proofs.Order.{lt-alike-right, le-alike, four-refl, four-sym, four-alike}
 use Rattle.numbers.proofs.Signs.{above-tells}
-use Rattle.geometry_parts.specs.declared.point.Point.{Point}
+use Rattle.geometry.specs.declared.point.Point.{Point}
 use Rattle.geometry.specs.declared.rect.Rect.{Rect}
-use Rattle.geometry_parts.specs.declared.insets.Insets.{Insets}
-use Rattle.geometry.specs.Rectangle.{width, height, contains, hasArea, rectEq, insetsEq, noInsets, finiteRect, finiteInsets}
+use Rattle.geometry.specs.declared.insets.Insets.{Insets}
+use Rattle.geometry.specs.Rectangle.{width, height, contains, hasArea, rectEq, insetsEq, zeroInsets, finiteRect, finiteInsets}
 
 -- ---- rectangles
 
@@ -72,6 +71,6 @@ module _ (i j : Insets) where
   insets-sym = four-sym (i .x0) (i .y0) (i .x1) (i .y1) (j .x0) (j .y0) (j .x1) (j .y1)
 
   -- equal insets are alike to the test for zero
-  pub insets-alike : insetsEq i j ≡ true → noInsets i ≡ noInsets j
-  unfolding insetsEq noInsets
+  pub insets-alike : insetsEq i j ≡ true → zeroInsets i ≡ zeroInsets j
+  unfolding insetsEq zeroInsets
   insets-alike h = four-alike (i .x0) (i .y0) (i .x1) (i .y1) (j .x0) (j .y0) (j .x1) (j .y1) h const.zero const.zero const.zero const.zero

@@ -1,1 +1,4 @@
+pub mod bbox
 pub mod Rectangle
+pub mod Parts
+pub mod Transform

@@ -3,12 +3,12 @@
 use mathlib.Core.Bool.{Bool, _&&_}
 use lib.Ieee.{Float, lt, le, eq}
 use lib.Ieee.Scale.{finite}
-use Rattle.geometry_parts.specs.declared.point.Point.{Point}
+use Rattle.geometry.specs.declared.point.Point.{Point}
 use Rattle.geometry.specs.declared.rect.Rect.{Rect}
-use Rattle.geometry_parts.specs.declared.insets.Insets.{Insets}
+use Rattle.geometry.specs.declared.insets.Insets.{Insets}
 use Rattle.numbers.specs.Rounded.{_⊕_, _⊖_, zero}
 use Rattle.numbers.specs.Number.{minimum, maximum}
-unfoldable pub use Rattle.geometry_parts.specs.Parts.{insetsEq, noInsets, finiteInsets}
+unfoldable pub use Rattle.geometry.specs.Parts.{insetsEq, zeroInsets, finiteInsets}
 
 abbrev pub rect : Float → Float → Float → Float → Rect
 rect x0 y0 x1 y1 = record { x0 = x0; y0 = y0; x1 = x1; y1 = y1 }
@@ -29,14 +29,14 @@ ordered r = rect (minimum (r .x0) (r .x1)) (minimum (r .y0) (r .y1)) (maximum (r
 
 -- intersection: the larger low edges, the smaller high edges, each high edge then the maximum of itself and its low edge; a NaN edge
 -- gives way to the other's
-abbrev pub overlap : Rect → Rect → Rect
-overlap r s = rect (maximum (r .x0) (s .x0)) (maximum (r .y0) (s .y0)) (minimum (r .x1) (s .x1)) (minimum (r .y1) (s .y1))
+abbrev pub innerEdges : Rect → Rect → Rect
+innerEdges r s = rect (maximum (r .x0) (s .x0)) (maximum (r .y0) (s .y0)) (minimum (r .x1) (s .x1)) (minimum (r .y1) (s .y1))
 
 abbrev pub raised : Rect → Rect
 raised r = rect (r .x0) (r .y0) (maximum (r .x1) (r .x0)) (maximum (r .y1) (r .y0))
 
 unfoldable pub intersection : Rect → Rect → Rect
-intersection r s = raised (overlap r s)
+intersection r s = raised (innerEdges r s)
 
 -- union: the smaller low edges, the larger high edges
 unfoldable pub union : Rect → Rect → Rect

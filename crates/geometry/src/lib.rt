@@ -1,5 +1,7 @@
-// Rectangles (document 01, module 1): the part of kurbo that the box tree uses. Points and insets (geometry_parts) are passed on.
+// The part of kurbo's plane geometry that the box tree uses (document 01, module 1): points, rectangles, insets and transforms.
 // Every function takes every f64, NaN and infinities included. Each contract says which definition of specs/ the result equals.
-pub mod insets;
-pub mod point;
-pub mod rect;
+pub mod affine; // transforms
+pub mod bbox; // the box of a rectangle's image
+pub mod insets; // how far each edge is moved
+pub mod point; // points
+pub mod rect; // rectangles

@@ -1,8 +1,8 @@
 // Rectangles, kurbo's rect.rs.
 ghost use mathlib.Core.Path.{_≡_};
 ghost use Rattle.geometry.specs.Rectangle as spec;
-use geometry_parts::insets::Insets;
-use geometry_parts::point::Point;
+use crate::insets::Insets;
+use crate::point::Point;
 use numbers::is_finite;
 use numbers::max;
 use numbers::min;

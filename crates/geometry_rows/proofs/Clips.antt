@@ -1,18 +1,14 @@
 -- Worked rows of clips, each by computation.
 use mathlib.Core.Path.{_≡_, refl}
-use mathlib.Core.Bool.{Bool, true, false, not}
+use mathlib.Core.Bool.{true, false}
 use Prim.Native.Nat.{ℕ}
-use lib.Ieee.{Float, nan, inf, binary64, ofBits, ofFields, round, units, odd, size, span, climb, add, sub, mul, div, sum, neg, lt, le, eq, isNan}
-use Rattle.numbers.specs.Number.{minimum, maximum, magnitude}
-use Rattle.geometry_parts.specs.declared.point.Point.{Point}
+use lib.Ieee.{Float, nan, binary64, ofBits, ofFields, round, neg}
 use Rattle.geometry.specs.Rectangle.{ordered, rectEq}
-use Rattle.clips.specs.declared.clip.Clip.the-variants.{None, Square, Rounded}
-use Rattle.clips.specs.Clips.{clipRect, clipRadii, fitted, shaped, constructed, quadrant, excess, insideRounded, inside, clipRectEq, clipEq}
+use Rattle.geometry_clips.specs.declared.clip.Clip.the-variants.{None, Square, Rounded}
+use Rattle.geometry_clips.specs.Clips.{clipRect, clipRadii, fitted, shaped, constructed, quadrant, excess, insideRounded, inside, clipRectEq, clipEq}
+use Rattle.geometry_rows.proofs.Numbers.{num, point, computed}
 
--- the whole number k, and the halves of whole numbers
-num : ℕ → Float
-num k = round binary64 false k 1
-
+-- the halves of whole numbers
 halves : ℕ → Float
 halves k = round binary64 false k 2
 
@@ -23,15 +19,12 @@ tenth = ofBits binary64 0x3fb9_9999_9999_999a
 threeTenths : Float
 threeTenths = ofBits binary64 0x3fd3_3333_3333_3333
 
-point : Float → Float → Point
-point x y = record { x = x; y = y }
-
 built : (constructed (Rounded (num 10) (num 10) (num 0) (num 0) (neg (num 3)) (num 0) (num 9) nan) ≡ Rounded (num 0) (num 0) (num 10) (num 10) (num 3) (num 0) (num 5) (num 5))  -- absolute value, cap, a NaN becomes the cap
     × (constructed (Rounded (num 3) (num 0) (num 3) (num 9) (num 7) (num 7) (num 7) (num 7)) ≡ Square (num 3) (num 0) (num 3) (num 9))  -- all radii 0: square
     × (constructed (Square (num 10) (num 10) (num 0) (num 0)) ≡ Square (num 0) (num 0) (num 10) (num 10))
     × (clipEq (Square (num 0) (num 0) (num 10) (num 10)) (Rounded (num 0) (num 0) (num 10) (num 10) (num 0) (neg (num 0)) (num 0) (num 0)) ≡ true)
     × (clipEq None (Square (num 0) (num 0) (num 0) (num 0)) ≡ false)
-unfolding num constructed clipRect clipRadii fitted shaped ordered clipEq clipRectEq rectEq minimum maximum magnitude round units odd size span climb div sub add sum neg lt eq isNan
+unfolding computed constructed clipRect clipRadii fitted shaped ordered clipEq clipRectEq rectEq
 built = (refl, refl, refl, refl, refl)
 
 held : (inside (Square tenth (neg (num 1)) threeTenths (num 1)) (point tenth (num 0)) ≡ false)  -- a square clip is no test by edges
@@ -43,5 +36,5 @@ held : (inside (Square tenth (neg (num 1)) threeTenths (num 1)) (point tenth (nu
     × (inside (Rounded (num 0) (num 0) (num 10) (num 10) (num 0) (num 0) (num 0) (num 5)) (point (halves 1) (halves 19)) ≡ false)  -- bottom left
     × (inside (Rounded (num 0) (num 0) (num 10) (num 10) (num 5) (num 5) (num 5) (num 5)) (point nan nan) ≡ true)  -- a NaN point is inside every clip
     × (inside None (point (num 1) (num 1)) ≡ true)
-unfolding num halves tenth threeTenths point inside clipRect clipRadii insideRounded quadrant excess minimum maximum magnitude round units odd size span climb ofBits ofFields mul div sub add sum neg lt le eq isNan
+unfolding computed halves tenth threeTenths inside clipRect clipRadii insideRounded quadrant excess ofBits ofFields
 held = (refl, refl, refl, refl, refl, refl, refl, refl, refl)

@@ -1,3 +1,4 @@
+pub mod Numbers
 pub mod Rectangles
 pub mod Transforms
 pub mod Clips

@@ -1,19 +1,10 @@
 -- Worked rows of rectangles, each by computation.
 use mathlib.Core.Path.{_≡_, refl}
-use mathlib.Core.Bool.{Bool, true, false, not}
-use Prim.Native.Nat.{ℕ}
-use lib.Ieee.{Float, nan, inf, binary64, round, units, odd, size, span, climb, add, sub, sum, neg, lt, le, eq, isNan}
-use Rattle.numbers.specs.Number.{minimum, maximum}
-use Rattle.geometry_parts.specs.declared.point.Point.{Point}
-use Rattle.geometry_parts.specs.declared.insets.Insets.{Insets}
+use mathlib.Core.Bool.{true, false}
+use lib.Ieee.{Float, nan, inf, neg}
+use Rattle.geometry.specs.declared.insets.Insets.{Insets}
 use Rattle.geometry.specs.Rectangle.{rect, ordered, intersection, contains, plusInsets, hasArea}
-
--- the whole number k
-num : ℕ → Float
-num k = round binary64 false k 1
-
-point : Float → Float → Point
-point x y = record { x = x; y = y }
+use Rattle.geometry_rows.proofs.Numbers.{num, point, computed}
 
 around : Float → Insets
 around s = record { x0 = s; y0 = s; x1 = s; y1 = s }
@@ -28,5 +19,5 @@ rows : (plusInsets (rect (num 10) (num 10) (num 0) (num 0)) (around (num 0)) ≡
     × (ordered (rect (num 0) nan (neg (num 0)) (num 5)) ≡ rect (num 0) (num 5) (num 0) (num 5))  -- the first of two zeros, the other of a NaN
     × (hasArea (rect (num 0) (num 0) (num 10) (num 0)) ≡ false)
     × (hasArea (rect (inf true) (num 0) (inf false) (num 1)) ≡ true)
-unfolding num point around ordered intersection contains plusInsets hasArea minimum maximum round units odd size span climb sub add sum neg lt le eq isNan
+unfolding computed around ordered intersection contains plusInsets hasArea
 rows = (refl, refl, refl, refl, refl, refl, refl, refl, refl, refl)

@@ -1,21 +1,12 @@
 -- Worked rows of transforms, each by computation.
 use mathlib.Core.Path.{_≡_, refl}
-use mathlib.Core.Bool.{Bool, true, false, not}
-use Prim.Native.Nat.{ℕ}
-use lib.Ieee.{Float, nan, inf, binary64, round, units, odd, size, span, climb, add, sub, mul, div, sum, neg, lt, isNan}
-use Rattle.numbers.specs.Number.{minimum, maximum}
-use Rattle.geometry_parts.specs.declared.point.Point.{Point}
+use mathlib.Core.Bool.{true, false}
+use lib.Ieee.{Float, nan, inf, neg}
 use Rattle.geometry.specs.Rectangle.{rect}
-use Rattle.transforms.specs.declared.affine.Affine.{Affine}
-use Rattle.transforms.specs.Transform.{identity, product, inverse, mapped}
-use Rattle.transform_boxes.specs.Bbox.{transformRectBbox}
-
--- the whole number k
-num : ℕ → Float
-num k = round binary64 false k 1
-
-point : Float → Float → Point
-point x y = record { x = x; y = y }
+use Rattle.geometry.specs.declared.affine.Affine.{Affine}
+use Rattle.geometry.specs.Transform.{identity, product, inverse, mapped}
+use Rattle.geometry.specs.bbox.Bbox.{transformRectBbox}
+use Rattle.geometry_rows.proofs.Numbers.{num, point, computed}
 
 affine : Float → Float → Float → Float → Float → Float → Affine
 affine a b c d e f = record { a = a; b = b; c = c; d = d; e = e; f = f }
@@ -31,5 +22,5 @@ rows : (product identity (affine (neg (num 0)) (num 0) (num 0) (neg (num 0)) (ne
     × (mapped (inverse turned) (point (num 80) (num 40)) ≡ point (num 40) (num 20))
     × (inverse (affine (num 0) (num 0) (num 0) (num 0) (num 5) (num 5)) ≡ affine nan nan nan nan nan nan)  -- an all-zero linear part
     × (inverse (affine (num 1) (neg (num 1)) (neg (num 1)) (num 1) (num 1) (num 0)) ≡ affine (inf false) (inf false) (inf false) (inf false) (inf true) (inf true))  -- a zero determinant is not refused
-unfolding num point affine turned product mapped inverse transformRectBbox minimum maximum round units odd size span climb mul div sub add sum neg lt isNan
+unfolding computed affine turned product mapped inverse transformRectBbox
 rows = (refl, refl, refl, refl, refl, refl, refl)

@@ -4,16 +4,20 @@ ghost use Prim.Native.Nat.{_≤_};
 ghost use lib.ListN.{length};
 use crate::damage;
 use crate::show;
-use boxes::Aabb2D;
-use boxes::Key;
-use boxes::NodeId;
-use call_lines::line;
-use call_lines::print;
-use call_lines::print::Buffer;
-use understory_index::Committed;
-use understory_index::Index;
-use understory_index::Inserted;
-use understory_index::Queried;
+use index_state::Committed;
+use index_state::Index;
+use index_state::Inserted;
+use index_state::Queried;
+use index_types::Aabb2D;
+use index_types::Key;
+use index_types::NodeId;
+use text_lines::line;
+use text_lines::print;
+use text_lines::print::Buffer;
+use understory_index::commits;
+use understory_index::inserts;
+use understory_index::queries;
+use understory_index::updates;
 
 // A box, if `is_read`.
 struct Corners {
@@ -61,14 +65,14 @@ fn new(out: &mut Buffer, used: &mut usize, n: usize, ix: Index) -> Index {
         return malformed(out, used, ix);
     }
     print::text(out, used, b"ok");
-    understory_index::fresh()
+    index_state::fresh()
 }
 
 fn clear(out: &mut Buffer, used: &mut usize, n: usize, ix: Index) -> Index {
     if n != 1 {
         return malformed(out, used, ix);
     }
-    let after = index_insert::clear(ix);
+    let after = inserts::clear(ix);
     let answer = after.answer;
     show::answer(out, used, answer);
     after.index
@@ -91,7 +95,7 @@ fn insert(out: &mut Buffer, used: &mut usize, line: &[u8], n: usize, ix: Index) 
         return malformed(out, used, ix);
     }
     let aabb = b.aabb;
-    let after = index_insert::insert(ix, aabb, NodeId(p.index, p.generation));
+    let after = inserts::insert(ix, aabb, NodeId(p.index, p.generation));
     let answer = after.answer;
     match answer {
         Inserted::Key(k) => print::pair(out, used, k.0, k.1),
@@ -107,7 +111,7 @@ fn update(out: &mut Buffer, used: &mut usize, line: &[u8], n: usize, ix: Index) 
         return malformed(out, used, ix);
     }
     let aabb = b.aabb;
-    let after = index_update::update(ix, Key(p.index, p.generation), aabb);
+    let after = updates::update(ix, Key(p.index, p.generation), aabb);
     let answer = after.answer;
     show::answer(out, used, answer);
     after.index
@@ -118,7 +122,7 @@ fn remove(out: &mut Buffer, used: &mut usize, line: &[u8], n: usize, ix: Index) 
     if !((n == 2) & p.is_read) {
         return malformed(out, used, ix);
     }
-    let after = index_update::remove(ix, Key(p.index, p.generation));
+    let after = updates::remove(ix, Key(p.index, p.generation));
     let answer = after.answer;
     show::answer(out, used, answer);
     after.index
@@ -133,7 +137,7 @@ fn commit(out: &mut Buffer, used: &mut usize, n: usize, ix: Index, room: u32) ->
     let mut old = box_room();
     let mut new = box_room();
     let k = lent(room);
-    let after = index_apply::commit(
+    let after = commits::commit(
         ix,
         &mut added[..k],
         &mut removed[..k],
@@ -172,14 +176,14 @@ fn found(out: &mut Buffer, used: &mut usize, answer: Queried, room: &[u32; 2048]
 fn ask_point(out: &mut Buffer, used: &mut usize, ix: Index, x: f64, y: f64, room: u32) {
     let mut entries = entry_room();
     let k = lent(room);
-    let answer = index_reads::query_point(ix, x, y, &mut entries[..k]);
+    let answer = queries::query_point(ix, x, y, &mut entries[..k]);
     found(out, used, answer, &entries);
 }
 
 fn ask_rect(out: &mut Buffer, used: &mut usize, ix: Index, rect: Aabb2D, room: u32) {
     let mut entries = entry_room();
     let k = lent(room);
-    let answer = index_reads::query_rect(ix, rect, &mut entries[..k]);
+    let answer = queries::query_rect(ix, rect, &mut entries[..k]);
     found(out, used, answer, &entries);
 }
 
@@ -217,8 +221,43 @@ fn query_rect(
     ix
 }
 
+// ---- the calls by name
+
+enum Verb {
+    New,
+    Clear,
+    Room,
+    Insert,
+    Update,
+    Remove,
+    Commit,
+    QueryPoint,
+    QueryRect,
+    Malformed,
+}
+
+// What a line's first word asks for. The arms are in the order of the names.
+fn verb_of(line: &[u8]) -> Verb {
+    match line::which(
+        b"new clear room insert update remove commit query_point query_rect",
+        line,
+        0,
+    ) {
+        0 => Verb::New,
+        1 => Verb::Clear,
+        2 => Verb::Room,
+        3 => Verb::Insert,
+        4 => Verb::Update,
+        5 => Verb::Remove,
+        6 => Verb::Commit,
+        7 => Verb::QueryPoint,
+        8 => Verb::QueryRect,
+        _ => Verb::Malformed,
+    }
+}
+
 // The room that is lent from a line on: it stays through `new` and `clear`.
-pub(crate) fn room_after(line: &[u8], room: u32) -> u32 {
+fn room_after(line: &[u8], room: u32) -> u32 {
     let n = line::count(line);
     let w = line::decimal_at(line, 1);
     let is_room = line::which(b"room", line, 0) == 0;
@@ -229,41 +268,62 @@ pub(crate) fn room_after(line: &[u8], room: u32) -> u32 {
     }
 }
 
-fn call(out: &mut Buffer, used: &mut usize, line: &[u8], ix: Index, room: u32) -> Index {
-    let n = line::count(line);
-    match line::which(
-        b"new clear room insert update remove commit query_point query_rect",
-        line,
-        0,
-    ) {
-        0 => new(out, used, n, ix),
-        1 => clear(out, used, n, ix),
-        2 => room_line(out, used, line, n, ix),
-        3 => insert(out, used, line, n, ix),
-        4 => update(out, used, line, n, ix),
-        5 => remove(out, used, line, n, ix),
-        6 => commit(out, used, n, ix, room),
-        7 => query_point(out, used, line, n, ix, room),
-        8 => query_rect(out, used, line, n, ix, room),
+// The calls that leave the index as it is.
+fn reading(
+    out: &mut Buffer,
+    used: &mut usize,
+    line: &[u8],
+    n: usize,
+    v: Verb,
+    ix: Index,
+    room: u32,
+) -> Index {
+    match v {
+        Verb::Room => room_line(out, used, line, n, ix),
+        Verb::QueryPoint => query_point(out, used, line, n, ix, room),
+        Verb::QueryRect => query_rect(out, used, line, n, ix, room),
         _ => malformed(out, used, ix),
     }
 }
 
-// Answers a line, but for an empty one and a note.
-pub(crate) fn answer(
-    out: &mut Buffer,
-    used: &mut usize,
-    line: &[u8],
-    ix: Index,
+fn call(out: &mut Buffer, used: &mut usize, line: &[u8], ix: Index, room: u32) -> Index {
+    let n = line::count(line);
+    let v = verb_of(line);
+    match v {
+        Verb::New => new(out, used, n, ix),
+        Verb::Clear => clear(out, used, n, ix),
+        Verb::Insert => insert(out, used, line, n, ix),
+        Verb::Update => update(out, used, line, n, ix),
+        Verb::Remove => remove(out, used, line, n, ix),
+        Verb::Commit => commit(out, used, n, ix, room),
+        _ => reading(out, used, line, n, v, ix, room),
+    }
+}
+
+// The index, and the room that a call is lent.
+pub(crate) struct State {
+    index: Index,
     room: u32,
-) -> Index {
+}
+
+pub(crate) fn start() -> State {
+    State {
+        index: index_state::fresh(),
+        room: 512,
+    }
+}
+
+// Answers a line, but for an empty one and a note.
+pub(crate) fn answer(out: &mut Buffer, used: &mut usize, line: &[u8], s: State) -> State {
     if line.len() == 0 {
-        return ix;
+        return s;
     }
     if line[0] == b'#' {
-        return ix;
+        return s;
     }
-    let after = call(out, used, line, ix, room);
+    let ix = s.index;
+    let room = room_after(line, s.room);
+    let index = call(out, used, line, ix, room);
     print::text(out, used, b"\n");
-    after
+    State { index, room }
 }

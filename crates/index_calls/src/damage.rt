@@ -1,9 +1,9 @@
 // A commit's answer: the boxes of each kind, and the union of them all.
 use crate::show;
-use call_lines::print;
-use call_lines::print::Buffer;
-use cells::box_at;
 use index_damage::Joined;
+use index_types::flat_tables::box_at;
+use text_lines::print;
+use text_lines::print::Buffer;
 
 fn print_boxes(out: &mut Buffer, used: &mut usize, room: &[f64; 2048], n: usize) {
     print::count(out, used, n);

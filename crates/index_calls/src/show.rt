@@ -1,10 +1,10 @@
 // The parts of an answer of the index.
 ghost use Prim.Native.Nat.{_≤_, _<_};
-use boxes::Aabb2D;
-use call_lines::print;
-use call_lines::print::Buffer;
-use understory_index::Answer;
-use understory_index::Refusal;
+use index_state::Answer;
+use index_state::Refusal;
+use index_types::Aabb2D;
+use text_lines::print;
+use text_lines::print::Buffer;
 
 // A space, and the box.
 pub(crate) fn corners(out: &mut Buffer, used: &mut usize, b: Aabb2D) {
@@ -13,13 +13,18 @@ pub(crate) fn corners(out: &mut Buffer, used: &mut usize, b: Aabb2D) {
 }
 
 // Document 01's number of a refusal.
-pub(crate) fn refused(out: &mut Buffer, used: &mut usize, r: Refusal) {
+fn number(r: Refusal) -> usize {
     match r {
-        Refusal::Unsound => print::text(out, used, b"refused 1"),
-        Refusal::ShortRoom => print::text(out, used, b"refused 8"),
-        Refusal::DeadKey => print::text(out, used, b"refused 10"),
-        Refusal::Full => print::text(out, used, b"refused 11"),
+        Refusal::Unsound => 1,
+        Refusal::ShortRoom => 8,
+        Refusal::DeadKey => 10,
+        Refusal::Full => 11,
     }
+}
+
+pub(crate) fn refused(out: &mut Buffer, used: &mut usize, r: Refusal) {
+    print::text(out, used, b"refused ");
+    print::count(out, used, number(r));
 }
 
 pub(crate) fn answer(out: &mut Buffer, used: &mut usize, a: Answer) {
@@ -36,14 +41,20 @@ pub(crate) fn at_most(n: usize) -> usize
     if n <= 512 { n } else { 512 }
 }
 
-// A space, a key, a space, and its payload.
+// A space, and the pair at the place `at`.
+fn pair_in(out: &mut Buffer, used: &mut usize, room: &[u32; 2048], at: usize)
+    requires { ⌜ at < 2047 ⌝ }
+{
+    print::text(out, used, b" ");
+    print::pair(out, used, room[at], room[at + 1]);
+}
+
+// A key, and its payload.
 fn entry(out: &mut Buffer, used: &mut usize, room: &[u32; 2048], i: usize)
     requires { ⌜ i < 512 ⌝ }
 {
-    print::text(out, used, b" ");
-    print::pair(out, used, room[i * 4], room[i * 4 + 1]);
-    print::text(out, used, b" ");
-    print::pair(out, used, room[i * 4 + 2], room[i * 4 + 3]);
+    pair_in(out, used, room, i * 4);
+    pair_in(out, used, room, i * 4 + 2);
 }
 
 // The entries of a query, four numbers each: key and payload.

@@ -1,9 +1,9 @@
 -- The backend has no box for an empty slot and for an entry that is only added, and one for every other entry; an entry without a mark has
 -- its own box there. A commit keeps that.
-use mathlib.Core.Path.{_≡_, refl, sym, _∙_, subst}
+use mathlib.Core.Path.{_≡_, sym, _∙_, subst}
 use mathlib.Core.Bool.{Bool, _||_}
-use mathlib.Core.List.{List, [], _∷_}
-use Prim.Native.Nat.{ℕ, zero, suc, _+_, _*_, _≤_, _<_}
+use mathlib.Core.List.{List}
+use Prim.Native.Nat.{ℕ, zero, suc, _≤_, _<_}
 use native.Mathlib.Numerals.{add-one}
 use native.Mathlib.Omega.{arith}
 use native.Mathlib.Decide.{ℕ-discrete}
@@ -11,8 +11,8 @@ use lib.Dec.{eqb}
 use lib.ListN.{length, take, getD, set, length-set}
 use lib.Seq.{getD-set-same, getD-set-other}
 use lib.Ieee.{Float}
-use Rattle.cells.specs.Cells.{boxAt, putBox}
-use Rattle.cells.proofs.Laws.{box-same, box-other, box-length}
+use Rattle.index_types.specs.flat_tables.Tables.{boxAt, putBox}
+use Rattle.index_types.proofs.flat_tables.Laws.{box-same, box-other, box-length}
 use Rattle.index_commit.specs.Commit.{Act, rests, adds, moves, drops, actOf, markStep, presentStep, boxesStep, Work, workStep, work}
 use Rattle.index_commit.proofs.Loop.{work-next}
 use Rattle.index_commit.proofs.Keep.{other}

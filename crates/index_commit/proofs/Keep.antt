@@ -9,8 +9,8 @@ use lib.ListN.{length, take, getD}
 use lib.Seq.{getD-set-same, getD-set-other}
 use lib.Ieee.{Float}
 use lib.Dec.{eqb}
-use Rattle.cells.specs.Cells.{boxAt}
-use Rattle.counting.specs.Times.{one, times}
+use Rattle.index_types.specs.flat_tables.Tables.{boxAt}
+use Rattle.counting.specs.Times.{tally, times}
 use Rattle.counting.proofs.Counting.{hit, miss, times-next}
 use Rattle.index_sound.proofs.Exact.{CountOf}
 use Rattle.index_entries.specs.Entries.{previousAt}
@@ -53,7 +53,7 @@ module _ (aabb prev : List Float) (dirty : List ℕ) (n u : ℕ) (w₀ : Work) (
       let x = getD dirty i 0 in
       let a = actOf (getD (w .mark) x 0) in
       let xl = slot-low (w .mark) (w .free) (w .frees) dirty n u i (T .sound) lq h in
-      let t : (y : ℕ) → times y (take (suc i) dirty) ≡ times y (take i dirty) + one (eqb y x) = λ y. rw (← add-one i) (times-next y dirty i (omega arith)) in
+      let t : (y : ℕ) → times y (take (suc i) dirty) ≡ times y (take i dirty) + tally (eqb y x) = λ y. rw (← add-one i) (times-next y dirty i (omega arith)) in
       record {
         sound = keep-slot (w .mark) (w .free) (w .frees) dirty n u (T .sound) (T .mark-whole) (T .free-whole) lq x xl (boxAt aabb x) (previousAt (w .kept) prev x);
         mark-whole = mark-length a (w .mark) x ∙ T .mark-whole;

@@ -8,12 +8,12 @@ use native.Mathlib.Decide.{decLt, ℕ-discrete}
 use lib.ListN.{length, take, getD, length-set}
 use lib.Seq.{take-suc}
 use lib.Ieee.{Float}
-use Rattle.boxes.specs.declared.Aabb2D.{Aabb2D}
-use Rattle.cells.specs.Cells.{boxAt}
+use Rattle.index_types.specs.declared.Aabb2D.{Aabb2D}
+use Rattle.index_types.specs.flat_tables.Tables.{boxAt}
 use Rattle.counting.proofs.Counting.{times-at}
 use Rattle.index_sound.proofs.Exact.{CountOf}
-use Rattle.entry_reads.specs.declared.Previous.{Previous}
-use Rattle.entry_reads.specs.declared.Previous.the-variants as was
+use Rattle.index_entries.specs.declared.reads.Previous.{Previous}
+use Rattle.index_entries.specs.declared.reads.Previous.the-variants as was
 use Rattle.index_entries.specs.Entries.{previousAt}
 use Rattle.index_entries.proofs.Keep.{settled, freed, free-room}
 use Rattle.index_commit.specs.declared.Change.{Change}

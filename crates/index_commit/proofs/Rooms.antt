@@ -7,11 +7,11 @@ use native.Mathlib.Omega.{arith}
 use lib.ListN.{length, drop, length-append, length-drop}
 use lib.Seq.{sets-eq, take-at, drop-at, drop-drop}
 use lib.Ieee.{Float}
-use Rattle.boxes.specs.declared.Aabb2D.{Aabb2D}
-use Rattle.cells.specs.Cells.{ofBox, putBox}
-use Rattle.cells.proofs.Laws.{box-length}
-use Rattle.entry_reads.specs.declared.Previous.{Previous}
-use Rattle.entry_reads.specs.declared.Previous.the-variants as was
+use Rattle.index_types.specs.declared.Aabb2D.{Aabb2D}
+use Rattle.index_types.specs.flat_tables.Tables.{ofBox, putBox}
+use Rattle.index_types.proofs.flat_tables.Laws.{box-length}
+use Rattle.index_entries.specs.declared.reads.Previous.{Previous}
+use Rattle.index_entries.specs.declared.reads.Previous.the-variants as was
 use Rattle.index_commit.specs.Commit.{flat, inFront, boxesWith, roomWith, countWith}
 
 flat-length : (bs : List Aabb2D) → length (flat bs) ≡ 4 * length bs

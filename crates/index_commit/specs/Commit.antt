@@ -1,16 +1,16 @@
 -- The index's commit (document 01, module 5; index.rs, commit_slot): what each queued slot does to the tables and adds to the damage.
 use Prim.Native.Nat.{ℕ, _+_, _*_}
 use mathlib.Core.Path.{_≡_}
-use mathlib.Core.Bool.{Bool, true, false, cond}
+use mathlib.Core.Bool.{cond}
 use mathlib.Core.List.{List, [], _∷_, _++_}
 use lib.Dec.{ltb, eqb}
 use lib.ListN.{length, drop, getD, set}
 use lib.Ieee.{Float}
-use Rattle.boxes.specs.declared.Aabb2D.{Aabb2D}
-use Rattle.boxes.specs.Boxes.{aabbEq}
-use Rattle.cells.specs.Cells.{boxAt, putBox, ofBox}
-use Rattle.entry_reads.specs.declared.Previous.{Previous}
-use Rattle.entry_reads.specs.declared.Previous.the-variants as was
+use Rattle.index_types.specs.declared.Aabb2D.{Aabb2D}
+use Rattle.index_types.specs.Boxes.{aabbEq}
+use Rattle.index_types.specs.flat_tables.Tables.{boxAt, putBox, ofBox}
+use Rattle.index_entries.specs.declared.reads.Previous.{Previous}
+use Rattle.index_entries.specs.declared.reads.Previous.the-variants as was
 use Rattle.index_entries.specs.Entries.{previousAt}
 use Rattle.index_commit.specs.declared.Change.{Change}
 use Rattle.index_commit.specs.declared.Done.{Done}

@@ -2,13 +2,14 @@
 ghost use mathlib.Core.Path.{_≡_};
 ghost use Prim.Native.Nat.{_+_, _*_, _<_, _≤_};
 ghost use Prim.Native.Nat.{ℕ};
-ghost use lib.ListN.{length, getD, set, take};
+ghost use lib.ListN.{length, getD, take};
 ghost use Rattle.index_sound.specs.Sound.{SoundOf};
-ghost use Rattle.cells.specs.Cells.{boxAt};
+ghost use Rattle.index_types.specs.flat_tables.Tables.{boxAt};
 ghost use Rattle.index_entries.specs.Entries.{previousAt};
 ghost use Rattle.index_commit.specs.Commit as spec;
-use boxes::Aabb2D;
 use index_entries::Previous;
+use index_types::Aabb2D;
+use index_types::flat_tables;
 
 // What one slot adds to the damage, and the length of the free list after it.
 pub struct Change {
@@ -71,8 +72,11 @@ pub fn commit_slot<'a>(
     ensures keeps { λ _. ⌜ now (kept .exit) ≡ spec.keptStep (spec.actOf (getD (now (mark .entry)) x 0)) (now (kept .entry)) x ⌝ }
     ensures frees { λ _. ⌜ now (free .exit) ≡ spec.freeStep (spec.actOf (getD (now (mark .entry)) x 0)) (now (free .entry)) frees x ⌝ }
     ensures presents { λ _. ⌜ now (present .exit) ≡ spec.presentStep (spec.actOf (getD (now (mark .entry)) x 0)) (now (present .entry)) x ⌝ }
-    ensures backend { λ _. ⌜ now (boxes .exit) ≡ spec.boxesStep (spec.actOf (getD (now (mark .entry)) x 0)) (now (boxes .entry)) x (boxAt (now (aabb .entry)) x) ⌝ }
-    ensures change { λ r. ⌜ r ≡ spec.changeOf (spec.actOf (getD (now (mark .entry)) x 0)) frees (boxAt (now (aabb .entry)) x) (previousAt (now (kept .entry)) (now (prev .entry)) x) ⌝ }
+    ensures backend { λ _. ⌜ (let act = spec.actOf (getD (now (mark .entry)) x 0) in
+        now (boxes .exit) ≡ spec.boxesStep act (now (boxes .entry)) x (boxAt (now (aabb .entry)) x)) ⌝ }
+    ensures change { λ r. ⌜ (let act = spec.actOf (getD (now (mark .entry)) x 0) in
+        let before = previousAt (now (kept .entry)) (now (prev .entry)) x in
+        r ≡ spec.changeOf act frees (boxAt (now (aabb .entry)) x) before) ⌝ }
 {
     let at = x as usize;
     let m = mark[at];
@@ -85,11 +89,11 @@ pub fn commit_slot<'a>(
             new: Previous::None,
         };
     }
-    let b = cells::box_at(aabb, at);
+    let b = flat_tables::box_at(aabb, at);
     if m == 2 {
         mark[at] = 1;
         present[at] = 1;
-        cells::put_box(boxes, at, b);
+        flat_tables::put_box(boxes, at, b);
         return Change {
             frees,
             added: Previous::Some(b),
@@ -103,7 +107,7 @@ pub fn commit_slot<'a>(
         mark[at] = 1;
         kept[at] = 0;
         present[at] = 1;
-        cells::put_box(boxes, at, b);
+        flat_tables::put_box(boxes, at, b);
         let from = moved_from(p, b);
         return Change {
             frees,
@@ -132,7 +136,7 @@ fn push(room: &mut [f64], n: usize, p: Previous) -> usize
 {
     match p {
         Previous::Some(b) => {
-            cells::put_box_in(room, n, b);
+            flat_tables::put_box_in(room, n, b);
             n + 1
         }
         Previous::None => n,
@@ -164,9 +168,18 @@ pub fn commit_slots<'a>(
     old: &mut [f64],
     new: &mut [f64],
 ) -> Done
-    requires { ⌜ (length (now mark) ≡ 512) × (length (now free) ≡ 512) × (length (now dirty) ≡ 512) × (2048 ≤ length (now added)) × (2048 ≤ length (now removed)) × (2048 ≤ length (now old)) × (2048 ≤ length (now new)) × ((u : ℕ) × SoundOf (now mark) (now free) frees (now dirty) queued u) ⌝ }
-    ensures tables { λ r. ⌜ spec.Leaves (spec.work (now (aabb .entry)) (now (prev .entry)) (spec.start (now (mark .entry)) (now (kept .entry)) (now (free .entry)) frees (now (present .entry)) (now (boxes .entry))) (take queued (now (dirty .entry)))) (now (mark .exit)) (now (kept .exit)) (now (free .exit)) (now (present .exit)) (now (boxes .exit)) r ⌝ }
-    ensures rooms { λ r. ⌜ spec.Lays (spec.work (now (aabb .entry)) (now (prev .entry)) (spec.start (now (mark .entry)) (now (kept .entry)) (now (free .entry)) frees (now (present .entry)) (now (boxes .entry))) (take queued (now (dirty .entry)))) (now (added .entry)) (now (removed .entry)) (now (old .entry)) (now (new .entry)) (now (added .exit)) (now (removed .exit)) (now (old .exit)) (now (new .exit)) ⌝ }
+    requires { ⌜ (length (now mark) ≡ 512) × (length (now free) ≡ 512) × (length (now dirty) ≡ 512)
+        × (2048 ≤ length (now added)) × (2048 ≤ length (now removed)) × (2048 ≤ length (now old)) × (2048 ≤ length (now new))
+        × ((u : ℕ) × SoundOf (now mark) (now free) frees (now dirty) queued u) ⌝ }
+    ensures tables { λ r. ⌜ (let slots = take queued (now (dirty .entry)) in
+        let begun = spec.start (now (mark .entry)) (now (kept .entry)) (now (free .entry)) frees (now (present .entry)) (now (boxes .entry)) in
+        let done = spec.work (now (aabb .entry)) (now (prev .entry)) begun slots in
+        spec.Leaves done (now (mark .exit)) (now (kept .exit)) (now (free .exit)) (now (present .exit)) (now (boxes .exit)) r) ⌝ }
+    ensures rooms { λ r. ⌜ (let slots = take queued (now (dirty .entry)) in
+        let begun = spec.start (now (mark .entry)) (now (kept .entry)) (now (free .entry)) frees (now (present .entry)) (now (boxes .entry)) in
+        let done = spec.work (now (aabb .entry)) (now (prev .entry)) begun slots in
+        spec.Lays done (now (added .entry)) (now (removed .entry)) (now (old .entry)) (now (new .entry))
+        (now (added .exit)) (now (removed .exit)) (now (old .exit)) (now (new .exit))) ⌝ }
 {
     let mut f = frees;
     let mut a = 0;

@@ -9,10 +9,10 @@ use native.Mathlib.Omega.{arith}
 use borrow.Author.Tests.{ltb-false}
 use lib.Dec.{ltb}
 use lib.Ieee.{Float}
-use Rattle.boxes.specs.declared.Aabb2D.{Aabb2D}
-use Rattle.cells.specs.Cells.{boxAt}
+use Rattle.index_types.specs.declared.Aabb2D.{Aabb2D}
+use Rattle.index_types.specs.flat_tables.Tables.{boxAt}
 use Rattle.index_damage.specs.declared.Joined.{Joined}
-use Rattle.index_damage.specs.Damage.{withBox, joinAll, boxesIn, movesIn, short}
+use Rattle.index_damage.specs.Damage.{withBox, joinAll, boxesIn, movesIn, anyShortOf}
 
 join-append : (u : Joined) (bs cs : List Aabb2D) → joinAll u (bs ++ cs) ≡ joinAll (joinAll u bs) cs
 unfolding joinAll
@@ -35,7 +35,7 @@ or-none true b h = (h, sym (cc))
 holds : (len n : ℕ) → ltb (len / 4) n ≡ false → 4 * n ≤ len
 holds len n h = let m : n * 4 ≤ len = le-div-iff-mul-le {k = 4} {x = n} {y = len} (omega arith) .0 (ltb-false (len / 4) n h) in omega arith
 
-pub long : (added a removed r old new m : ℕ) → short added a removed r old new m ≡ false → (4 * a ≤ added) × (4 * r ≤ removed) × (4 * m ≤ old) × (4 * m ≤ new)
+pub long : (added a removed r old new m : ℕ) → anyShortOf added a removed r old new m ≡ false → (4 * a ≤ added) × (4 * r ≤ removed) × (4 * m ≤ old) × (4 * m ≤ new)
 long added a removed r old new m h =
     let p = or-none (ltb (added / 4) a || ltb (removed / 4) r) (ltb (old / 4) m || ltb (new / 4) m) h in
     let q = or-none (ltb (added / 4) a) (ltb (removed / 4) r) (p .0) in

@@ -1,12 +1,12 @@
 -- Worked rows of the union, each by computation. The order shows where a NaN stands: an unordered pair gives the first.
 use mathlib.Core.Path.{_≡_, refl}
 use mathlib.Core.Bool.{Bool, true, false}
-use mathlib.Core.List.{List, [], _∷_, _++_}
+use mathlib.Core.List.{[], _++_}
 use lib.IntN.{pos}
 use lib.Ieee.{Float, nan, fin, lt}
-use Rattle.boxes.specs.declared.Aabb2D.{Aabb2D}
-use Rattle.boxes.specs.Boxes.{aabb, least, greatest, union}
-use Rattle.cells.specs.Cells.{ofBox, boxAt}
+use Rattle.index_types.specs.declared.Aabb2D.{Aabb2D}
+use Rattle.index_types.specs.Boxes.{aabb, least, greatest, union}
+use Rattle.index_types.specs.flat_tables.Tables.{ofBox, boxAt}
 use Rattle.index_damage.specs.declared.Joined.{Joined}
 use Rattle.index_damage.specs.declared.Joined.the-variants as is
 use Rattle.index_damage.specs.Damage.{withBox, joinAll, boxesIn, movesIn, unionOf, joinedNumber}

@@ -5,9 +5,9 @@ use mathlib.Core.List.{List, [], _∷_, _++_}
 use lib.Dec.{ltb, eqb}
 use lib.ListN.{length}
 use lib.Ieee.{Float}
-use Rattle.boxes.specs.declared.Aabb2D.{Aabb2D}
-use Rattle.boxes.specs.Boxes as box
-use Rattle.cells.specs.Cells.{boxAt}
+use Rattle.index_types.specs.declared.Aabb2D.{Aabb2D}
+use Rattle.index_types.specs.Boxes as box
+use Rattle.index_types.specs.flat_tables.Tables.{boxAt}
 use Rattle.index_damage.specs.declared.Joined.{Joined}
 use Rattle.index_damage.specs.declared.Joined.the-variants as is
 
@@ -35,12 +35,12 @@ movesIn old new zero = []
 movesIn old new (suc n) = movesIn old new n ++ (boxAt old n ∷ boxAt new n ∷ [])
 
 -- a room is shorter than its count says
-abbrev pub short : ℕ → ℕ → ℕ → ℕ → ℕ → ℕ → ℕ → Bool
-short added a removed r old new m = ltb (added / 4) a || ltb (removed / 4) r || (ltb (old / 4) m || ltb (new / 4) m)
+abbrev pub anyShortOf : ℕ → ℕ → ℕ → ℕ → ℕ → ℕ → ℕ → Bool
+anyShortOf added a removed r old new m = ltb (added / 4) a || ltb (removed / 4) r || (ltb (old / 4) m || ltb (new / 4) m)
 
 unfoldable pub unionOf : List Float → ℕ → List Float → ℕ → List Float → List Float → ℕ → Joined
 unionOf added a removed r old new m =
-    cond (short (length added) a (length removed) r (length old) (length new) m) is.ShortRoom
+    cond (anyShortOf (length added) a (length removed) r (length old) (length new) m) is.ShortRoom
     (joinAll (joinAll (joinAll is.None (boxesIn added a)) (boxesIn removed r)) (movesIn old new m))
 
 -- the number that the answer gives: 0 for a union or none, and document 01's 8 where a room is shorter than its count says

@@ -1,10 +1,10 @@
 // The damage of a commit, as it stands in lent room: understory_index's damage.rs. Room for moves is two slices, the old and the new boxes.
 ghost use mathlib.Core.Path.{_≡_};
-ghost use Prim.Native.Nat.{_+_, _*_, _<_, _≤_};
+ghost use Prim.Native.Nat.{_*_, _≤_};
 ghost use lib.ListN.{length};
-ghost use Rattle.cells.specs.Cells.{boxAt};
 ghost use Rattle.index_damage.specs.Damage as spec;
-use boxes::Aabb2D;
+use index_types::Aabb2D;
+use index_types::flat_tables::box_in;
 
 // The union of the boxes so far, if there is one; or the refusal 8, where a room is shorter than its count says.
 pub enum Joined {
@@ -28,20 +28,6 @@ fn with_box(u: Joined, b: Aabb2D) -> Joined
         Joined::None => Joined::Some(b),
         Joined::Some(a) => Joined::Some(a.union(b)),
         Joined::ShortRoom => Joined::ShortRoom,
-    }
-}
-
-// A box of lent room.
-fn box_in(room: &[f64], i: usize) -> Aabb2D
-    requires { ⌜ 4 * i + 4 ≤ length (now room) ⌝ }
-    ensures { λ r. ⌜ r ≡ boxAt (now (room .entry)) i ⌝ }
-{
-    let p = 4 * i;
-    Aabb2D {
-        min_x: room[p],
-        min_y: room[p + 1],
-        max_x: room[p + 2],
-        max_y: room[p + 3],
     }
 }
 

@@ -1,6 +1,6 @@
 -- Each step keeps the tables sound, by counting.
 use mathlib.Core.Path.{_≡_, refl, sym, _∙_}
-use mathlib.Core.Bool.{Bool, true, false, not, _&&_, cond}
+use mathlib.Core.Bool.{Bool, true, false, _&&_, cond}
 use mathlib.Core.List.{List}
 use Prim.Native.Nat.{ℕ, _+_, _-_, _≤_, _<_, zero-le}
 use native.Mathlib.Omega.{arith}
@@ -9,14 +9,14 @@ use borrow.Author.Tests.{lt-ltb, le-ltb, ltb-true, ltb-false, ne-eqb}
 use lib.Dec.{eqb, ltb}
 use lib.ListN.{length, take, getD, set, length-set}
 use lib.Seq.{getD-set-same, getD-set-other, length-take-le}
-use Rattle.counting.specs.Times.{one, times}
-use Rattle.counting.proofs.Counting.{one-small, hit, miss, times-next, times-put, times-at, shorter}
+use Rattle.counting.specs.Times.{tally, times}
+use Rattle.counting.proofs.Counting.{tally-small, hit, miss, times-next, times-put, times-at, shorter}
 use Rattle.index_sound.specs.Sound.{empty}
 use Rattle.index_sound.proofs.Exact.{SlotOf, CountOf}
-use Rattle.entry_reads.specs.declared.Mark.{Mark}
-use Rattle.entry_reads.specs.declared.Mark.the-variants as is
+use Rattle.index_entries.specs.declared.reads.Mark.{Mark}
+use Rattle.index_entries.specs.declared.reads.Mark.the-variants as is
 use Rattle.index_entries.specs.Entries.{stands, queueWith, lengthWith, markOf, slotFor, usedFor, unmarked, added, updatedMark, removedMark}
-use Rattle.index_entries.proofs.Slots.{slot-unused, slot-last, used-unused, used-last}
+use Rattle.index_entries.proofs.Found.{slot-unused, slot-last, used-unused, used-last}
 
 -- a Bool split with its equation
 split : {A : Type 0} (b : Bool) → (b ≡ true → A) → (b ≡ false → A) → A
@@ -66,7 +66,7 @@ module _ (dirty : List ℕ) (n : ℕ) (Q : QueueOf dirty n) (lq : length dirty �
       let e = queue-grows dirty n x s in
       let r = queue-room s in
       let z : times x (take n dirty) ≡ 0 = omega (arith, ltb-false 0 (times x (take n dirty)) s) in
-      let put : (y : ℕ) → times y (take (n + 1) (set dirty n x)) ≡ times y (take n dirty) + one (eqb y x) = λ y. times-put y dirty n x (omega arith) in
+      let put : (y : ℕ) → times y (take (n + 1) (set dirty n x)) ≡ times y (take n dirty) + tally (eqb y x) = λ y. times-put y dirty n x (omega arith) in
       rw (e .0, e .1)
       (record {
         queue = record {
@@ -87,8 +87,8 @@ module _ (mark free : List ℕ) (frees : ℕ) (dirty : List ℕ) (n used : ℕ) 
 
   pub changed : (free' : List ℕ) (frees' : ℕ) (dirty' : List ℕ) (n' used' a v : ℕ)
       → a < used' → used ≤ used' → used' ≤ 512 → frees' ≤ 512
-      → times a (take frees' free') ≡ one (eqb v 0)
-      → ((x : ℕ) → (x ≡ a → ⊥) → times x (take frees' free') ≡ one (empty mark used' x))
+      → times a (take frees' free') ≡ tally (eqb v 0)
+      → ((x : ℕ) → (x ≡ a → ⊥) → times x (take frees' free') ≡ tally (empty mark used' x))
       → QueueOf dirty' n'
       → (2 ≤ v → times a (take n' dirty') ≡ 1)
       → ((x : ℕ) → (x ≡ a → ⊥) → times x (take n' dirty') ≡ times x (take n dirty))
@@ -116,9 +116,9 @@ module _ (mark free : List ℕ) (frees : ℕ) (dirty : List ℕ) (n used : ℕ) 
       let u = C .used-fits in
       let none : times a (take frees free) ≡ 0 = C .slot a .counted ∙ rw (ne-eqb (getD mark a 0) 0 e) (nothing (ltb a used)) in
       rw (length-take-le frees free (omega arith)) at
-      (shorter 512 a (take frees free) (λ x. rw (C .slot x .counted) (one-small (empty mark used x))) (λ x g. C .slot x .counted ∙ rw (le-ltb x used (omega arith))) h none)
+      (shorter 512 a (take frees free) (λ x. rw (C .slot x .counted) (tally-small (empty mark used x))) (λ x g. C .slot x .counted ∙ rw (le-ltb x used (omega arith))) h none)
     where
-      nothing : (b : Bool) → one (b && false) ≡ 0
+      nothing : (b : Bool) → tally (b && false) ≡ 0
       nothing true = refl
       nothing false = refl
 
@@ -134,7 +134,7 @@ module _ (mark free : List ℕ) (frees : ℕ) (dirty : List ℕ) (n used : ℕ) 
   last-empty e =
       let a = getD free (frees - 1) 0 in
       let f = C .free-fits in
-      let t : 1 ≤ one (empty mark used a) = omega (arith, C .slot a .counted, times-at free (frees - 1) frees (omega arith) (omega arith)) in
+      let t : 1 ≤ tally (empty mark used a) = omega (arith, C .slot a .counted, times-at free (frees - 1) frees (omega arith) (omega arith)) in
       elim (decLt a used) [
         | yes l ↦ elim (ℕ-discrete (getD mark a 0) 0) [ yes z ↦ (l, z) | no m ↦ absurd (omega (arith, rw (lt-ltb a used l, ne-eqb (getD mark a 0) 0 m) at t)) ]
         | no g ↦ absurd (omega (arith, rw (le-ltb a used (omega arith)) at t))
@@ -188,8 +188,8 @@ module _ (mark free : List ℕ) (frees : ℕ) (dirty : List ℕ) (n used : ℕ) 
             let f = C .free-fits in
             let d = last-empty m in
             let back : frees - 1 + 1 ≡ frees = omega arith in
-            let next : (x : ℕ) → times x (take frees free) ≡ times x (take (frees - 1) free) + one (eqb x a) = λ x. rw back at (times-next x free (frees - 1) (omega arith)) in
-            let dead : one (empty mark used a) ≡ 1 = rw (lt-ltb a used (d .0), d .1) in
+            let next : (x : ℕ) → times x (take frees free) ≡ times x (take (frees - 1) free) + tally (eqb x a) = λ x. rw back at (times-next x free (frees - 1) (omega arith)) in
+            let dead : tally (empty mark used a) ≡ 1 = rw (lt-ltb a used (d .0), d .1) in
             rw (used-last free free frees used m)
             (changed mark free frees dirty n used C lm free (frees - 1) (queueWith dirty n s) (lengthWith dirty n s) used s 2 (rw sl (d .0)) (omega arith) (C .used-fits) (omega arith)
             (rw sl (omega (arith, next a, hit a, C .slot a .counted, dead)))
@@ -233,7 +233,7 @@ module _ (mark free : List ℕ) (frees : ℕ) (dirty : List ℕ) (n used : ℕ) 
   unlisted : times x (take frees free) ≡ 0
   unlisted = C .slot x .counted ∙ rw (ne-eqb (getD mark x 0) 0 held) (nothing (ltb x used))
     where
-      nothing : (b : Bool) → one (b && false) ≡ 0
+      nothing : (b : Bool) → tally (b && false) ≡ 0
       nothing true = refl
       nothing false = refl
 
@@ -277,7 +277,7 @@ module _ (mark free : List ℕ) (frees : ℕ) (dirty : List ℕ) (n used : ℕ) 
   pub freed : CountOf (set mark x 0) (set free frees x) (frees + 1) dirty n used
   freed =
       let r = free-room mark free frees dirty n used C lm x held h lf in
-      let put : (y : ℕ) → times y (take (frees + 1) (set free frees x)) ≡ times y (take frees free) + one (eqb y x) = λ y. times-put y free frees x (omega arith) in
+      let put : (y : ℕ) → times y (take (frees + 1) (set free frees x)) ≡ times y (take frees free) + tally (eqb y x) = λ y. times-put y free frees x (omega arith) in
       changed mark free frees dirty n used C lm (set free frees x) (frees + 1) dirty n used x 0 (entry-used mark free frees dirty n used C lm x held) (omega arith) (C .used-fits) (omega arith)
       (omega (arith, put x, hit x, unlisted))
       (λ y w. omega (arith, put y, miss y x w, C .slot y .counted)) Q (λ l. absurd (omega arith)) (λ y w. refl)

@@ -1,1 +1,4 @@
+pub mod slots
+pub mod reads
+pub mod remove
 pub mod Entries

@@ -1,22 +1,28 @@
-// The update of an entry over lent tables (understory_index's index.rs). Look-up, insert and remove are passed on: the calls by value and the
-// box tree stand on these.
+// The entries of the index over lent tables (understory_index's index.rs); the calls by value and the box tree stand on these. Here an entry is
+// updated; look-up, insert and remove are passed on.
+pub mod insert; // a new entry
+pub mod reads; // an entry is read, and what a key finds
+pub mod remove; // an entry is removed
+pub mod slots; // generations, the queue, and the slot of an insert
+
 ghost use mathlib.Core.Path.{_≡_};
 ghost use mathlib.Core.Bool.{false, cond};
 ghost use Prim.Native.Nat.{_<_, _≤_};
 ghost use lib.ListN.{length, set};
-ghost use Rattle.cells.specs.Cells.{putBox};
+ghost use Rattle.index_types.specs.flat_tables.Tables.{putBox};
 ghost use Rattle.index_entries.specs.Entries as spec;
-use boxes::Aabb2D;
-pub use entry_insert::insert_entry;
-pub use entry_reads::Entry;
-pub use entry_reads::Found;
-pub use entry_reads::Mark;
-pub use entry_reads::Previous;
-pub use entry_reads::look_up;
-pub use entry_reads::previous_at;
-pub use entry_remove::Lengths;
-pub use entry_remove::remove_entry;
-use entry_slots::queue_dirty_slot;
+pub use crate::insert::insert_entry;
+pub use crate::reads::Entry;
+pub use crate::reads::Found;
+pub use crate::reads::Mark;
+pub use crate::reads::Previous;
+pub use crate::reads::look_up;
+pub use crate::reads::previous_at;
+pub use crate::remove::Lengths;
+pub use crate::remove::remove_entry;
+use crate::slots::queue_dirty_slot;
+use index_types::Aabb2D;
+use index_types::flat_tables;
 
 // Inner: gives a slot's entry another box. An entry without a mark keeps the box it had and is queued; an added one stays added. The
 // queue's new length is returned.
@@ -40,7 +46,7 @@ pub fn update_entry(
     ensures lengths { λ r. ⌜ r ≡ cond (spec.unmarked (e .mark)) (spec.lengthWith (now (dirty .entry)) queued x) queued ⌝ }
 {
     let at = x as usize;
-    cells::put_box(aabb, at, b);
+    flat_tables::put_box(aabb, at, b);
     let m = e.mark;
     match m {
         Mark::Added => {
@@ -49,7 +55,7 @@ pub fn update_entry(
         }
         Mark::Unmarked => {
             let before = e.aabb;
-            cells::put_box(prev, at, before);
+            flat_tables::put_box(prev, at, before);
             kept[at] = 1;
             mark[at] = 3;
             queue_dirty_slot(dirty, queued, x)

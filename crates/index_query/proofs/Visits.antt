@@ -9,10 +9,10 @@ use native.Mathlib.Omega.{arith}
 use lib.ListN.{length, drop, getD, length-append, length-drop}
 use lib.Seq.{sets-eq, take-at, drop-at, drop-drop, length-sets}
 use lib.Ieee.{Float, le}
-use Rattle.boxes.specs.declared.Aabb2D.{Aabb2D}
-use Rattle.boxes.specs.Boxes.{aabb, overlaps, containsPoint}
-use Rattle.cells.specs.Stride.{store}
-use Rattle.cells.specs.Cells.{boxAt, idAt}
+use Rattle.index_types.specs.declared.Aabb2D.{Aabb2D}
+use Rattle.index_types.specs.Boxes.{aabb, overlaps, containsPoint}
+use Rattle.index_types.specs.flat_tables.Stride.{store}
+use Rattle.index_types.specs.flat_tables.Tables.{boxAt, idAt}
 use Rattle.index_query.specs.Query.{visits, visitsPoint, slots, words, entries, inFront}
 
 -- ---- slots

@@ -1,14 +1,14 @@
 -- The index's queries (document 01, module 4): "visits in rising slot order; containment and overlap include all edges".
-use Prim.Native.Nat.{ℕ, zero, suc, _*_}
-use mathlib.Core.Bool.{Bool, true, false, not, _&&_, cond}
+use Prim.Native.Nat.{ℕ, zero, suc}
+use mathlib.Core.Bool.{Bool, not, _&&_, cond}
 use mathlib.Core.List.{List, [], _∷_, _++_}
 use lib.Dec.{eqb}
 use lib.ListN.{length, drop, getD}
 use lib.Ieee.{Float}
-use Rattle.boxes.specs.declared.Aabb2D.{Aabb2D}
-use Rattle.boxes.specs.declared.NodeId.{NodeId}
-use Rattle.boxes.specs.Boxes.{overlaps, containsPoint}
-use Rattle.cells.specs.Cells.{boxAt, idAt}
+use Rattle.index_types.specs.declared.Aabb2D.{Aabb2D}
+use Rattle.index_types.specs.declared.NodeId.{NodeId}
+use Rattle.index_types.specs.Boxes.{overlaps, containsPoint}
+use Rattle.index_types.specs.flat_tables.Tables.{boxAt, idAt}
 
 -- the slot has a box in the backend, as the last commit left it, that meets the rectangle, and it holds an entry now
 abbrev pub visits : List ℕ → List Float → List ℕ → Aabb2D → ℕ → Bool

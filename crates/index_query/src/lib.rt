@@ -1,12 +1,13 @@
 // The index's queries over lent tables: flatvec.rs, visit_rect, with index.rs's look at the entry. The visits come as a list in lent room.
 ghost use mathlib.Core.Path.{_≡_};
-ghost use mathlib.Core.Bool.{Bool, cond};
+ghost use mathlib.Core.Bool.{cond};
 ghost use Prim.Native.Nat.{_+_, _*_, _<_, _≤_};
 ghost use lib.ListN.{length};
-ghost use Rattle.cells.specs.Stride.{store};
+ghost use Rattle.index_types.specs.flat_tables.Stride.{store};
 ghost use Rattle.index_query.specs.Query as spec;
-use boxes::Aabb2D;
-use boxes::NodeId;
+use index_types::Aabb2D;
+use index_types::NodeId;
+use index_types::flat_tables;
 
 // Inner: whether a slot is visited: it has a box in the backend that meets the rectangle, and an entry.
 pub fn visited<'a>(
@@ -19,7 +20,7 @@ pub fn visited<'a>(
     requires { ⌜ x < 512 ⌝ }
     ensures { λ r. ⌜ r ≡ spec.visits (now (present .entry)) (now (boxes .entry)) (now (mark .entry)) rect x ⌝ }
 {
-    let b = cells::box_at(boxes, x);
+    let b = flat_tables::box_at(boxes, x);
     (present[x] != 0) & ((mark[x] != 0) & b.overlaps(rect))
 }
 
@@ -57,13 +58,17 @@ pub fn visit_rect<'a>(
     room: &mut [u32],
 ) -> usize
     requires { ⌜ 2048 ≤ length (now room) ⌝ }
-    ensures { λ r. ⌜ (now (room .exit) ≡ spec.inFront (spec.entries (now (generation .entry)) (now (payload .entry)) (spec.slots 512 (spec.visits (now (present .entry)) (now (boxes .entry)) (now (mark .entry)) rect))) (now (room .entry))) × (r ≡ length (spec.slots 512 (spec.visits (now (present .entry)) (now (boxes .entry)) (now (mark .entry)) rect))) ⌝ }
+    ensures { λ r. ⌜
+        (let found = spec.slots 512 (spec.visits (now (present .entry)) (now (boxes .entry)) (now (mark .entry)) rect) in
+        (now (room .exit) ≡ spec.inFront (spec.entries (now (generation .entry)) (now (payload .entry)) found) (now (room .entry)))
+        × (r ≡ length found))
+        ⌝ }
 {
     let mut n = 0;
     let mut x = 0usize;
     while x < 512 {
         let take = visited(present, boxes, mark, x, rect);
-        let p = cells::id_at(payload, x);
+        let p = flat_tables::id_at(payload, x);
         push_entry(room, n, take, x as u32, generation[x], p);
         n = count_with(n, take);
         x += 1;

@@ -7,23 +7,23 @@ use lib.IntN.{pos}
 use lib.ListN.{replicate, set}
 use lib.Ieee.{Float, nan, fin, binary64, round, units, odd, size, span, climb, eq, le, lt}
 use Rattle.numbers.specs.Rounded.{zero}
-use Rattle.boxes.specs.declared.Aabb2D.{Aabb2D}
-use Rattle.boxes.specs.declared.NodeId.{NodeId}
-use Rattle.boxes.specs.declared.Key.{Key}
-use Rattle.boxes.specs.Boxes.{aabb, aabbEq, containsPoint, overlaps}
-use Rattle.cells.specs.Cells.{boxAt, putBox, idAt, putId}
+use Rattle.index_types.specs.declared.Aabb2D.{Aabb2D}
+use Rattle.index_types.specs.declared.NodeId.{NodeId}
+use Rattle.index_types.specs.declared.Key.{Key}
+use Rattle.index_types.specs.Boxes.{aabb, aabbEq, containsPoint, overlaps}
+use Rattle.index_types.specs.flat_tables.Tables.{boxAt, putBox, idAt, putId}
 use Rattle.counting.specs.Times.{times, every}
 use Rattle.counting.specs.Lists.{onceBelow}
 use Rattle.index_sound.specs.Sound.{soundOf}
 use Rattle.index_entries.specs.Entries.{nextGeneration, queueWith, lengthWith, markOf, previousAt, slotFor, usedFor, generationFor}
 use Rattle.index_commit.specs.Commit.{actOf, boxBefore, movedFrom, movedTo, workStep, work}
 use Rattle.index_query.specs.Query.{slots, entries}
-use Rattle.understory_index.specs.declared.Index.{Index}
-use Rattle.understory_index.specs.declared.Inserted.the-variants as inserts
-use Rattle.understory_index.specs.declared.Inserted.{Inserted}
-use Rattle.understory_index.specs.declared.Committed.the-variants as commits
-use Rattle.understory_index.specs.Index.{numberOf, insertedNumber, answerNumber, committedNumber, queriedNumber, refusal, soundIndex, keyOf, live, freshIndex, insertCall, updateCall, removeCall, clearCall, workOf, commitCall, rectSlots, pointSlots, queryAnswer}
-use Rattle.understory_index.specs.Run.{Call, insert, update, remove, clear, commit, after, run}
+use Rattle.index_state.specs.declared.Index.{Index}
+use Rattle.index_state.specs.declared.Inserted.the-variants as inserts
+use Rattle.index_state.specs.declared.Inserted.{Inserted}
+use Rattle.index_state.specs.declared.Committed.the-variants as commits
+use Rattle.index_state.specs.Index.{numberOf, insertedNumber, answerNumber, committedNumber, queriedNumber, refusal, soundIndex, keyOf, live, freshIndex, insertCall, updateCall, removeCall, clearCall, workOf, commitCall, rectSlots, pointSlots, queryAnswer}
+use Rattle.index_state.specs.Run.{Call, insert, update, remove, clear, commit, after, run}
 
 -- the whole number k, and a box from k to k + 1 both ways
 pub num : ℕ → Float
@@ -59,6 +59,13 @@ found cs = damage (done cs)
 pub next : List Call → Inserted
 next cs = insertCall (done cs) (box 9) (node 9) .answer
 
+-- what the rows compute through
+computed : Unit {0}
+unfolding num box node add settle first done damage found next answerNumber entries freshIndex run after insertCall updateCall removeCall clearCall
+    commitCall workOf rectSlots slots soundOf onceBelow every times nextGeneration queueWith lengthWith markOf previousAt slotFor usedFor
+    generationFor actOf boxBefore movedFrom movedTo workStep work boxAt putBox idAt putId aabbEq overlaps round units odd size span climb eq le lt
+computed = tt
+
 -- P11: a committed entry removed, then updated, commit: it lives with the new box and no damage.
 -- P12: updated, then removed: the damage shows the box before the update.
 pub p11-p12 : (found (add 10 ∷ settle ∷ remove first ∷ update first (box 20) ∷ []) ≡ [] ∷ [] ∷ [] ∷ [] ∷ [])
@@ -66,7 +73,7 @@ pub p11-p12 : (found (add 10 ∷ settle ∷ remove first ∷ update first (box 2
     × (rectSlots (done (add 10 ∷ settle ∷ remove first ∷ update first (box 20) ∷ settle ∷ [])) (box 20) ≡ 0 ∷ [])
     × (rectSlots (done (add 10 ∷ settle ∷ remove first ∷ update first (box 20) ∷ settle ∷ [])) (box 10) ≡ [])
     × (found (add 10 ∷ settle ∷ update first (box 20) ∷ remove first ∷ []) ≡ [] ∷ (box 10 ∷ []) ∷ [] ∷ [] ∷ [])
-unfolding num box node add settle first done damage found freshIndex run after insertCall updateCall removeCall commitCall workOf rectSlots slots soundOf onceBelow every times nextGeneration queueWith lengthWith markOf previousAt slotFor usedFor generationFor actOf boxBefore movedFrom movedTo workStep work boxAt putBox idAt putId aabbEq overlaps round units odd size span climb eq le lt
+unfolding computed
 p11-p12 = (refl, refl, refl, refl, refl)
 
 pub rows : (found (add 10 ∷ add 20 ∷ remove first ∷ add 30 ∷ []) ≡ (box 30 ∷ box 20 ∷ []) ∷ [] ∷ [] ∷ [] ∷ [])  -- an emptied slot keeps its place in the queue
@@ -97,7 +104,7 @@ pub rows : (found (add 10 ∷ add 20 ∷ remove first ∷ add 30 ∷ []) ≡ (bo
     × (rectSlots (done (add 10 ∷ settle ∷ remove first ∷ settle ∷ [])) (box 10) ≡ [])
     × (rectSlots (done (add 10 ∷ remove first ∷ settle ∷ [])) (box 10) ≡ [])
     × (live (done (add 10 ∷ settle ∷ clear ∷ add 20 ∷ [])) first ≡ true)  -- after clear an old key lives again
-unfolding num box node add settle first done damage found next answerNumber entries freshIndex run after insertCall updateCall removeCall clearCall commitCall workOf rectSlots slots soundOf onceBelow every times nextGeneration queueWith lengthWith markOf previousAt slotFor usedFor generationFor actOf boxBefore movedFrom movedTo workStep work boxAt putBox idAt putId aabbEq overlaps round units odd size span climb eq le lt
+unfolding computed
 rows = (refl, refl, refl, refl, refl, refl, refl, refl, refl, refl, refl, refl, refl, refl, refl, refl, refl, refl, refl, refl, refl, refl, refl, refl, refl, refl, refl, refl)
 
 -- boxes that are no boxes of numbers in order: all NaN, all +0, all −0, and corners the wrong way round
@@ -119,7 +126,7 @@ pub odd-boxes : (found (insert (flat nan) none ∷ settle ∷ update first (flat
     × (pointSlots (done (add 10 ∷ settle ∷ [])) (num 11) (num 10) ≡ 0 ∷ [])  -- a high and a low edge are in
     × (pointSlots (done (add 10 ∷ settle ∷ [])) (num 10) (num 11) ≡ 0 ∷ [])  -- and the other two
     × (pointSlots (done (add 10 ∷ settle ∷ [])) nan (num 10) ≡ [])
-unfolding num box node add settle first done damage found next answerNumber entries freshIndex run after insertCall updateCall removeCall clearCall commitCall workOf rectSlots slots soundOf onceBelow every times nextGeneration queueWith lengthWith markOf previousAt slotFor usedFor generationFor actOf boxBefore movedFrom movedTo workStep work boxAt putBox idAt putId aabbEq overlaps round units odd size span climb eq le lt flat minus-zero none pointSlots containsPoint
+unfolding computed flat minus-zero none pointSlots containsPoint
 odd-boxes = (refl, refl, refl, refl, refl, refl, refl, refl, refl)
 
 -- Hand-made indexes. Of slot 0 its own box is 10, its previous box 20, and the box in the backend 30: soundness says nothing of boxes. It is
@@ -179,7 +186,7 @@ pub hand-made : (damage (vacant 1) ≡ [] ∷ [] ∷ [] ∷ [] ∷ [])  -- a que
     × (answerNumber (removeCall (vacant 1) first .answer) ≡ 10)
     × (insertedNumber (insertCall brim (box 40) none .answer) ≡ 11)  -- a removed entry takes its slot until the commit
     × (insertCall (after brim settle) (box 40) none .answer ≡ inserts.Key (keyOf 0 2))
-unfolding num box node add settle first done damage found next answerNumber entries freshIndex run after insertCall updateCall removeCall clearCall commitCall workOf rectSlots slots soundOf onceBelow every times nextGeneration queueWith lengthWith markOf previousAt slotFor usedFor generationFor actOf boxBefore movedFrom movedTo workStep work boxAt putBox idAt putId aabbEq overlaps round units odd size span climb eq le lt none hand vacant plain past brim insertedNumber numberOf
+unfolding computed none hand vacant plain past brim insertedNumber numberOf
 hand-made = (refl, refl, refl, refl, refl, refl, refl, refl, refl, refl, refl, refl, refl, refl, refl, refl, refl, refl, refl)
 
 -- what the rows above leave open: removed twice, a previous box after its commit, slots in order, keys of a slot that is used again
@@ -192,14 +199,14 @@ pub further : (found (add 40 ∷ settle ∷ remove first ∷ remove first ∷ []
     × (live (done (add 10 ∷ remove first ∷ add 20 ∷ [])) first ≡ false)  -- a stale key
     × (answerNumber (updateCall (done (add 10 ∷ remove first ∷ add 20 ∷ [])) first (box 30) .answer) ≡ 10)
     × (next (add 0 ∷ add 1 ∷ add 2 ∷ add 3 ∷ settle ∷ remove (keyOf 2 1) ∷ remove first ∷ remove (keyOf 3 1) ∷ settle ∷ add 4 ∷ add 5 ∷ []) ≡ inserts.Key (keyOf 2 2))  -- first freed, last used
-unfolding num box node add settle first done damage found next answerNumber entries freshIndex run after insertCall updateCall removeCall clearCall commitCall workOf rectSlots slots soundOf onceBelow every times nextGeneration queueWith lengthWith markOf previousAt slotFor usedFor generationFor actOf boxBefore movedFrom movedTo workStep work boxAt putBox idAt putId aabbEq overlaps round units odd size span climb eq le lt numberOf
+unfolding computed numberOf
 further = (refl, refl, refl, refl, refl, refl, refl, refl, refl)
 
 -- slots above 256, and a payload whose generation is not its key's
 pub wide : (insertCall (hand (set (replicate 512 1) 511 0) 0 511 0) (box 40) none .answer ≡ inserts.Key (keyOf 511 1))
     × (live (hand (set (replicate 512 1) 511 0) 0 511 0) (keyOf 300 1) ≡ true)
     × (entries (done (insert (box 10) (record { 0 = 10; 1 = 7 }) ∷ settle ∷ []) .generation) (done (insert (box 10) (record { 0 = 10; 1 = 7 }) ∷ settle ∷ []) .payload) (0 ∷ []) ≡ 0 ∷ 1 ∷ 10 ∷ 7 ∷ [])
-unfolding num box node add settle first done damage found next answerNumber entries freshIndex run after insertCall updateCall removeCall clearCall commitCall workOf rectSlots slots soundOf onceBelow every times nextGeneration queueWith lengthWith markOf previousAt slotFor usedFor generationFor actOf boxBefore movedFrom movedTo workStep work boxAt putBox idAt putId aabbEq overlaps round units odd size span climb eq le lt hand
+unfolding computed hand
 wide = (refl, refl, refl)
 
 -- unsound indexes, each by one condition of document 01 or of the tables' shape; every call answers 1
@@ -236,7 +243,7 @@ pub unsound : (soundIndex (broken 1 0 (replicate 512 0) 1 (replicate 512 0) 2) �
     × (answerNumber (clearCall (broken 0 1 (replicate 512 0) 0 (replicate 512 0) 0) .answer) ≡ 1)
     × (committedNumber (commitCall (broken 0 1 (replicate 512 0) 0 (replicate 512 0) 0) 0 0 0 0 .answer) ≡ 1)
     × (queriedNumber (queryAnswer (broken 0 1 (replicate 512 0) 0 (replicate 512 0) 0) [] 0) ≡ 1)
-unfolding num box node add settle first done damage found next answerNumber entries freshIndex run after insertCall updateCall removeCall clearCall commitCall workOf rectSlots slots soundOf onceBelow every times nextGeneration queueWith lengthWith markOf previousAt slotFor usedFor generationFor actOf boxBefore movedFrom movedTo workStep work boxAt putBox idAt putId aabbEq overlaps round units odd size span climb eq le lt broken insertedNumber committedNumber queriedNumber queryAnswer numberOf
+unfolding computed broken insertedNumber committedNumber queriedNumber queryAnswer numberOf
 unsound = (refl, refl, refl, refl, refl, refl, refl, refl, refl, refl, refl, refl, refl, refl, refl, refl)
 
 -- 8, for each of the four rooms and for a query's

@@ -8,9 +8,9 @@ use native.Mathlib.Decide.{decLt, ℕ-discrete}
 use borrow.Author.Tests.{ne-eqb, lt-ltb, le-ltb}
 use lib.Dec.{eqb, ltb, leb}
 use lib.ListN.{length, take, getD, List·getD-eq-default}
-use Rattle.counting.specs.Times.{one, times}
+use Rattle.counting.specs.Times.{tally, times}
 use Rattle.counting.specs.Lists.{Tells, onceBelow}
-use Rattle.counting.proofs.Counting.{one-small}
+use Rattle.counting.proofs.Counting.{tally-small}
 use Rattle.counting.proofs.Kit.{both, at-most, less, equal, every-tells, through, unless}
 use Rattle.counting.proofs.Words.{OnceBelow, once-below-tells, find, seen, small, once-of}
 use Rattle.index_sound.specs.Sound.{Empty, SoundOf, empty, slotRight, soundOf}
@@ -19,7 +19,7 @@ use Rattle.index_sound.specs.Sound.{Empty, SoundOf, empty, slotRight, so
 
 pub record SlotOf (x used mark free queue : ℕ) : Type 0 where
   pub past : used ≤ x → mark ≡ 0
-  pub counted : free ≡ one (ltb x used && eqb mark 0)
+  pub counted : free ≡ tally (ltb x used && eqb mark 0)
   pub waits : 2 ≤ mark → queue ≡ 1
 
 slot-tells : (x used mark free queue : ℕ) → Tells (slotRight x used mark free queue) (SlotOf x used mark free queue)
@@ -28,7 +28,7 @@ slot-tells x used mark free queue =
     (λ p. record { past = λ h. p .0 (λ l. omega arith); counted = p .1 .0; waits = λ h. p .1 .1 (λ l. omega arith) })
     (λ S. ((λ n. S .past (omega (arith, not-less x used n))), (S .counted, λ n. S .waits (omega (arith, not-less mark 2 n)))))
     (both (ltb x used || eqb mark 0) _ (unless (ltb x used) (eqb mark 0) (less x used) (equal mark 0))
-    (both (eqb free (one (ltb x used && eqb mark 0))) _ (equal free (one (ltb x used && eqb mark 0))) (unless (ltb mark 2) (eqb queue 1) (less mark 2) (equal queue 1))))
+    (both (eqb free (tally (ltb x used && eqb mark 0))) _ (equal free (tally (ltb x used && eqb mark 0))) (unless (ltb mark 2) (eqb queue 1) (less mark 2) (equal queue 1))))
   where
     not-less : (a b : ℕ) → (a < b → ⊥) → b ≤ a
     not-less a b n = elim (decLt a b) [ yes l ↦ absurd (n l) | no m ↦ omega arith ]
@@ -65,7 +65,7 @@ module _ (mark free : List ℕ) (frees : ℕ) (dirty : List ℕ) (queued used : 
       let u = C .used-fits in (
         u,
         (
-          record { fits = C .free-fits; low = λ x g. C .slot x .counted ∙ rw (le-ltb x used (omega arith)); once = λ x. rw (C .slot x .counted) (one-small (empty mark used x)) },
+          record { fits = C .free-fits; low = λ x g. C .slot x .counted ∙ rw (le-ltb x used (omega arith)); once = λ x. rw (C .slot x .counted) (tally-small (empty mark used x)) },
           (record { fits = C .queue-fits; low = C .low; once = C .once }, λ x l. C .slot x),
         ),
       )
@@ -82,10 +82,10 @@ module _ (mark free : List ℕ) (frees : ℕ) (dirty : List ℕ) (queued used : 
 
   -- ---- counting and words
 
-  is-empty : (x : ℕ) → Empty mark used x → one (empty mark used x) ≡ 1
+  is-empty : (x : ℕ) → Empty mark used x → tally (empty mark used x) ≡ 1
   is-empty x d = rw (lt-ltb x used (d .0), d .1)
 
-  empty-of : (x : ℕ) → 1 ≤ one (empty mark used x) → Empty mark used x
+  empty-of : (x : ℕ) → 1 ≤ tally (empty mark used x) → Empty mark used x
   empty-of x h =
       elim (decLt x used) [
         | yes l ↦ elim (ℕ-discrete (getD mark x 0) 0) [
@@ -110,7 +110,7 @@ module _ (mark free : List ℕ) (frees : ℕ) (dirty : List ℕ) (queued used : 
         ];
         free-empty = λ x w. empty-of x (omega (arith, seen free frees ff x w, C .slot x .counted));
         empty-free = λ x d. find free frees ff x (omega (arith, is-empty x d, C .slot x .counted));
-        free-once = once-of free frees ff (λ x. rw (C .slot x .counted) (one-small (empty mark used x)));
+        free-once = once-of free frees ff (λ x. rw (C .slot x .counted) (tally-small (empty mark used x)));
         marked-queued = λ x m. find dirty queued qf x (omega (arith, C .slot x .waits m));
         queue-once = once-of dirty queued qf (C .once);
       }
@@ -134,10 +134,10 @@ module _ (mark free : List ℕ) (frees : ℕ) (dirty : List ℕ) (queued used : 
       qf : queued ≤ length dirty
       qf = omega (arith, S .queue-fits)
 
-      due : (x : ℕ) → times x (take frees free) ≡ one (empty mark used x)
+      due : (x : ℕ) → times x (take frees free) ≡ tally (empty mark used x)
       due x =
           elim (decLt (times x (take frees free)) 1) [
-            | yes z ↦ elim (decLt (one (empty mark used x)) 1) [
+            | yes z ↦ elim (decLt (tally (empty mark used x)) 1) [
               | yes y ↦ omega arith
               | no g ↦ absurd (omega (arith, seen free frees ff x (S .empty-free x (empty-of x (omega arith)))))
             ]

@@ -2,11 +2,11 @@
 -- how many slots are used. A mark is a number: 0 for an empty slot, 1 for an entry without a mark, 2 added, 3 updated, from 4 on removed.
 use Prim.Native.Nat.{ℕ, _≤_, _<_}
 use mathlib.Core.Path.{_≡_}
-use mathlib.Core.Bool.{Bool, true, _&&_, _||_}
+use mathlib.Core.Bool.{Bool, _&&_, _||_}
 use mathlib.Core.List.{List}
 use lib.Dec.{ltb, leb, eqb}
 use lib.ListN.{take, getD}
-use Rattle.counting.specs.Times.{one, times, every}
+use Rattle.counting.specs.Times.{tally, times, every}
 use Rattle.counting.specs.Lists.{Listed, Once, onceBelow}
 
 -- a used empty slot
@@ -40,7 +40,7 @@ empty mark used x = ltb x used && eqb (getD mark x 0) 0
 
 -- one slot, from its mark and how often it stands in the free list and in the queue
 abbrev pub slotRight : ℕ → ℕ → ℕ → ℕ → ℕ → Bool
-slotRight x used mark free queue = (ltb x used || eqb mark 0) && (eqb free (one (ltb x used && eqb mark 0)) && (ltb mark 2 || eqb queue 1))
+slotRight x used mark free queue = (ltb x used || eqb mark 0) && (eqb free (tally (ltb x used && eqb mark 0)) && (ltb mark 2 || eqb queue 1))
 
 unfoldable pub soundOf : List ℕ → List ℕ → ℕ → List ℕ → ℕ → ℕ → Bool
 soundOf mark free frees dirty queued used =

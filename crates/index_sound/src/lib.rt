@@ -4,7 +4,7 @@ ghost use mathlib.Core.Bool.{true, _&&_};
 ghost use Prim.Native.Nat.{ℕ};
 ghost use lib.Dec.{ltb, eqb};
 ghost use lib.ListN.{length, getD, take};
-ghost use Rattle.counting.specs.Times.{one, times, every};
+ghost use Rattle.counting.specs.Times.{tally, times, every};
 ghost use Rattle.counting.specs.Lists.{onceBelow};
 ghost use Rattle.index_sound.specs.Sound.{slotRight, soundOf};
 
@@ -41,7 +41,7 @@ fn count(list: &[u32; 512], n: usize) -> Counted
 
 // How often a slot is to stand in the free list.
 fn due(x: usize, used: usize, mark: u8) -> u8
-    ensures { λ r. ⌜ r ≡ one (ltb x used && eqb mark 0) ⌝ }
+    ensures { λ r. ⌜ r ≡ tally (ltb x used && eqb mark 0) ⌝ }
 {
     if (x < used) & (mark == 0) { 1 } else { 0 }
 }

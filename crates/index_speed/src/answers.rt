@@ -1,9 +1,9 @@
 // What the answers add to a phase's sum, which wraps. A refusal adds nothing, so a sum tells it.
 ghost use Prim.Native.Nat.{_≤_, _<_};
-use understory_index::Answer;
-use understory_index::Committed;
-use understory_index::Inserted;
-use understory_index::Queried;
+use index_state::Answer;
+use index_state::Committed;
+use index_state::Inserted;
+use index_state::Queried;
 
 pub(crate) fn inserted(sum: u64, a: Inserted) -> u64 {
     match a {

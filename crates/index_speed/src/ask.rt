@@ -3,9 +3,10 @@ ghost use mathlib.Core.Path.{_≡_};
 ghost use lib.ListN.{length};
 use crate::answers;
 use crate::fill;
-use crate::report;
 use crate::work;
-use understory_index::Index;
+use index_state::Index;
+use text_lines::report;
+use understory_index::queries;
 
 fn entry_room() -> [u32; 2048]
     ensures { λ r. ⌜ 2048 ≡ length r ⌝ }
@@ -18,7 +19,7 @@ fn points(ix: Index, height: f64, sum: u64) -> u64 {
     let mut s = sum;
     let mut k = 0u32;
     while k < 64 {
-        let answer = index_reads::query_point(ix, work::x(k), work::y(k, height), &mut room);
+        let answer = queries::query_point(ix, work::x(k), work::y(k, height), &mut room);
         s = answers::queried(s, &room, answer);
         k += 1;
     }
@@ -30,7 +31,7 @@ fn rects(ix: Index, height: f64, sum: u64) -> u64 {
     let mut s = sum;
     let mut k = 0u32;
     while k < 64 {
-        let answer = index_reads::query_rect(ix, work::rect(k, height), &mut room);
+        let answer = queries::query_rect(ix, work::rect(k, height), &mut room);
         s = answers::queried(s, &room, answer);
         k += 1;
     }
@@ -43,7 +44,7 @@ fn refusals(ix: Index, height: f64, sum: u64) -> u64 {
     let mut room = [0u32; 4];
     let mut k = 0u32;
     while k < 64 {
-        let answer = index_reads::query_rect(ix, work::rect(k, height), &mut room);
+        let answer = queries::query_rect(ix, work::rect(k, height), &mut room);
         s = answers::refused(s, answer);
         k += 1;
     }

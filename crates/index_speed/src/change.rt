@@ -3,9 +3,11 @@
 use crate::answers;
 use crate::fill;
 use crate::fill::Load;
-use crate::report;
 use crate::work;
-use boxes::Key;
+use index_types::Key;
+use text_lines::report;
+use understory_index::commits;
+use understory_index::updates;
 
 // The first 512 entries, updated.
 fn update(load: Load, shift: f64) -> Load {
@@ -14,7 +16,7 @@ fn update(load: Load, shift: f64) -> Load {
     let mut i = 0u32;
     while i < 512 {
         let aabb = work::place(i, shift);
-        let after = index_update::update(ix, Key(i, 1), aabb);
+        let after = updates::update(ix, Key(i, 1), aabb);
         let answer = after.answer;
         s = answers::done(s, answer);
         ix = after.index;
@@ -47,9 +49,9 @@ fn single(
     let mut i = 0u32;
     while i < 512 {
         let aabb = work::place(i, shift);
-        let updated = index_update::update(ix, Key(i, 1), aabb);
+        let updated = updates::update(ix, Key(i, 1), aabb);
         let waiting = updated.index;
-        let after = index_apply::commit(waiting, added, removed, old, new);
+        let after = commits::commit(waiting, added, removed, old, new);
         let answer = after.answer;
         s = answers::damage(s, answer);
         ix = after.index;
@@ -106,7 +108,7 @@ fn again(
     let mut s = sum;
     let mut k = 0u32;
     while k < 64 {
-        let after = index_apply::commit(ix, added, removed, old, new);
+        let after = commits::commit(ix, added, removed, old, new);
         let answer = after.answer;
         s = answers::damage(s, answer);
         last = after.index;

@@ -2,10 +2,12 @@
 ghost use mathlib.Core.Path.{_≡_};
 ghost use lib.ListN.{length};
 use crate::answers;
-use crate::report;
 use crate::work;
-use boxes::NodeId;
-use understory_index::Index;
+use index_state::Index;
+use index_types::NodeId;
+use text_lines::report;
+use understory_index::commits;
+use understory_index::inserts;
 
 pub(crate) struct Load {
     pub(crate) index: Index,
@@ -20,12 +22,12 @@ pub(crate) fn box_room() -> [f64; 2048]
 
 // The first n entries, inserted.
 pub(crate) fn insert(n: u32, sum: u64) -> Load {
-    let mut ix = understory_index::fresh();
+    let mut ix = index_state::fresh();
     let mut s = sum;
     let mut i = 0u32;
     while i < n {
         let aabb = work::place(i, 0.0);
-        let after = index_insert::insert(ix, aabb, NodeId(i, 1));
+        let after = inserts::insert(ix, aabb, NodeId(i, 1));
         let answer = after.answer;
         s = answers::inserted(s, answer);
         ix = after.index;
@@ -53,7 +55,7 @@ pub(crate) fn commit(
     new: &mut [f64],
 ) -> Load {
     let ix = load.index;
-    let after = index_apply::commit(ix, added, removed, old, new);
+    let after = commits::commit(ix, added, removed, old, new);
     let answer = after.answer;
     let index = after.index;
     Load {

@@ -6,7 +6,8 @@ mod answers; // what the answers add to a sum
 mod fill; // inserts and commits of them
 mod change; // updates and commits of them
 mod ask; // queries
-mod report; // rounds, the clock and the lines
+
+use text_lines::report;
 
 fn main() {
     let rounds = report::rounds();

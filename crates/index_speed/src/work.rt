@@ -1,5 +1,5 @@
 // The list: boxes 15 wide in steps of 10, eight to a row, so that neighbours overlap. All numbers are exact.
-use boxes::Aabb2D;
+use index_types::Aabb2D;
 
 // The box of entry i, moved to the right by `shift`.
 pub(crate) fn place(i: u32, shift: f64) -> Aabb2D {

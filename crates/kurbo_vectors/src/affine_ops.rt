@@ -7,10 +7,10 @@ use crate::line::holds;
 use crate::line::judged;
 use crate::line::point;
 use crate::line::rect;
-use transform_boxes::transform_rect_bbox;
-use transforms::affine::Affine;
-use words::float;
-use words::place;
+use geometry::affine::Affine;
+use geometry::bbox::transform_rect_bbox;
+use text_lines::spelling::float;
+use text_lines::spelling::place;
 
 fn affine(w: &[u64; 20], i: usize) -> Affine
     requires { ⌜ i ≤ 14 ⌝ }

@@ -7,11 +7,11 @@ use crate::line::holds;
 use crate::line::judged;
 use crate::line::point;
 use crate::line::rect;
-use clips::clip::Clip;
-use clips::clip::ClipRect;
 use geometry::rect::Rect;
-use words::float;
-use words::place;
+use geometry_clips::clip::Clip;
+use geometry_clips::clip::ClipRect;
+use text_lines::spelling::float;
+use text_lines::spelling::place;
 
 fn is_kind(w: u64) -> bool {
     w <= 2

@@ -7,8 +7,9 @@ ghost use mathlib.Core.Bool.{true};
 ghost use Rattle.io.specs.Counts.{Counts};
 use geometry::point::Point;
 use geometry::rect::Rect;
-use words::Word;
-use words::float;
+use text_lines::spelling;
+use text_lines::spelling::Word;
+use text_lines::spelling::float;
 
 // How a line fares. `Unknown`: its name is not one of those that were tried.
 pub(crate) enum Outcome {
@@ -39,7 +40,7 @@ fn parsed(s: &[u8]) -> Word {
     if s[0] != b' ' {
         return Word::None;
     }
-    words::pattern(&s[1..])
+    spelling::pattern(&s[1..])
 }
 
 // The words of `line` from `from` on, at most 20.
@@ -87,7 +88,7 @@ pub(crate) fn exact(w: u64, x: f64) -> bool
     ensures { λ r. ⌜ (r ≡ true → x ≡ ofBits binary64 w) ⌝ }
 {
     if x != x {
-        return words::is_nan(w);
+        return spelling::is_nan(w);
     }
     f64::to_bits(x) == w
 }

@@ -8,13 +8,14 @@ mod rect_ops;
 
 use crate::line::Count;
 use crate::line::Outcome;
+use text_lines::input;
+use text_lines::input::Input;
+use text_lines::input::Space;
 
-// What is known after a part of the input: how many bytes of the line that has begun are held, and the counts.
-struct State {
-    length: usize,
+// How many lines there were, and how many of them differ.
+struct Tally {
     lines: u64,
     differ: u64,
-    open: bool,
 }
 
 fn is_known(o: Outcome) -> bool {
@@ -62,97 +63,64 @@ fn report(line: &[u8], number: u64, what: &[u8]) -> u64 {
     1
 }
 
-// The end of a line whose first bytes are held in `space`.
-fn finish(space: &[u8], s: State) -> State {
-    let number = std::num::wrapping_add_u64(s.lines, 1);
-    let length = words::within(s.length, space);
-    let line = &space[..length];
-    let differ = match outcome(line) {
+// A line, counted from 1: what it adds to those that differ.
+fn judge(line: &[u8], number: u64) -> u64 {
+    match outcome(line) {
         Outcome::Same => 0,
         Outcome::Differs => report(line, number, b" differs: "),
         _ => report(line, number, b" is malformed: "),
-    };
-    State {
-        length: 0,
-        lines: number,
-        differ: std::num::wrapping_add_u64(s.differ, differ),
-        open: s.open,
     }
 }
 
-// One byte of the input. Of a line that is too long only the first bytes are held: no vector is so long.
-fn step(space: &mut [u8], s: State, byte: u8) -> State {
-    if byte == b'\n' {
-        return finish(space, s);
+// Runs the line that is held, if it is whole.
+fn run_line(space: &Space, p: Input, c: Tally) -> Tally {
+    if !p.is_line {
+        return c;
     }
-    let at = s.length;
-    if at >= space.len() {
-        return s;
-    }
-    space[at] = byte;
-    State {
-        length: at + 1,
-        lines: s.lines,
-        differ: s.differ,
-        open: s.open,
+    let n = input::line_length(space, p);
+    let held = &space[..];
+    let lines = std::num::wrapping_add_u64(c.lines, 1);
+    let more = judge(&held[..n], lines);
+    Tally {
+        lines,
+        differ: std::num::wrapping_add_u64(c.differ, more),
     }
 }
 
-fn feed(space: &mut [u8], start: State, block: &[u8]) -> State {
-    let mut s = start;
-    let mut i = 0;
-    while i < block.len() {
-        s = step(space, s, block[i]);
-        i += 1;
+// The end of the input. A read that failed counts as one that differs.
+fn close(p: Input, c: Tally) -> Tally {
+    if p.is_read {
+        return c;
     }
-    s
-}
-
-// The end of the input. A last line without its line end is a line.
-fn close(space: &[u8], s: State, is_read: bool) -> State {
-    let mut t = s;
-    if s.length > 0 {
-        t = finish(space, s);
+    io::write_all(1, b"the input cannot be read\n");
+    Tally {
+        lines: c.lines,
+        differ: std::num::wrapping_add_u64(c.differ, 1),
     }
-    t.open = false;
-    if !is_read {
-        io::write_all(1, b"the input cannot be read\n");
-        t.differ = std::num::wrapping_add_u64(t.differ, 1);
-    }
-    t
-}
-
-fn read_some(space: &mut [u8], s: State) -> State {
-    let mut block = io::large_buffer();
-    let got = libc::read(0, &mut block);
-    if got <= 0 {
-        return close(space, s, got == 0);
-    }
-    let n = io::count(got, &block);
-    feed(space, s, &block[..n])
 }
 
 // A proved loop has to end, and nothing says that the input does: the turns are counted down from a number that no run uses up.
-fn read_all() -> State {
+fn read_all() -> Tally {
+    let mut block = io::large_buffer();
     let mut space = [0u8; 512];
-    let mut s = State {
-        length: 0,
+    let mut p = input::start();
+    let mut c = Tally {
         lines: 0,
         differ: 0,
-        open: true,
     };
     let mut turns = u64::MAX;
-    while turns > 0 && s.open {
-        s = read_some(&mut space, s);
+    while turns > 0 && p.is_open {
+        p = input::next(&mut block, &mut space, p);
+        c = run_line(&space, p, c);
         turns -= 1;
     }
-    s
+    close(p, c)
 }
 
 fn main() {
-    let s = read_all();
-    io::print_decimal(1, s.lines);
+    let c = read_all();
+    io::print_decimal(1, c.lines);
     io::write_all(1, b" vectors, ");
-    io::print_decimal(1, s.differ);
+    io::print_decimal(1, c.differ);
     io::write_all(1, b" differ\n");
 }

@@ -8,8 +8,8 @@ use numbers::abs;
 use numbers::is_finite;
 use numbers::max;
 use numbers::min;
-use words::float;
-use words::place;
+use text_lines::spelling::float;
+use text_lines::spelling::place;
 
 pub(crate) fn run(name: &[u8], w: &[u64; 20], n: usize) -> Outcome {
     let x = float(w[0]);

@@ -8,7 +8,7 @@ use crate::line::judged;
 use crate::line::point;
 use crate::line::rect;
 use geometry::insets::Insets;
-use words::place;
+use text_lines::spelling::place;
 
 fn insets(w: &[u64; 20], i: usize) -> Insets
     requires { ⌜ i ≤ 16 ⌝ }

@@ -1,21 +1,21 @@
 -- What the accessors make of each other: a stored value is read back, the others are as they were.
 use Prim.Native.Nat.{ℕ, _+_, _*_, _≤_}
 use mathlib.Core.Path.{_≡_, refl, ap}
-use mathlib.Core.Bool.{Bool, true, false}
+use mathlib.Core.Bool.{Bool}
 use mathlib.Core.List.{List}
 use lib.ListN.{length}
 use lib.Seq.{length-sets}
 use lib.Ieee.{Float}
 use Rattle.geometry.specs.declared.rect.Rect.{Rect}
-use Rattle.geometry_parts.specs.declared.insets.Insets.{Insets}
-use Rattle.transforms.specs.declared.affine.Affine.{Affine}
-use Rattle.clips.specs.declared.clip.Clip.{Clip}
-use Rattle.clips.specs.declared.clip.Clip.the-variants as is
-use Rattle.clip_rects.specs.declared.ClipRect.{ClipRect}
-use Rattle.clip_rects.specs.declared.ClipRect.the-variants as of
-use Rattle.clips.specs.Clips.{clipRect, clipRadii}
-use Rattle.cells.proofs.Segments.{same, other}
-use Rattle.node_cells.specs.Tables.{rectOf, ofRect, rectAt, putRect, insetsOf, ofInsets, insetsAt, putInsets, affineOf, ofAffine, affineAt, putAffine, squareOf, roundedOf, clipAt, kindOf, edgesFrom, edgesOf, ofClip, putClip, clipRectAt, isThere, putClipRect}
+use Rattle.geometry.specs.declared.insets.Insets.{Insets}
+use Rattle.geometry.specs.declared.affine.Affine.{Affine}
+use Rattle.geometry_clips.specs.declared.clip.Clip.{Clip}
+use Rattle.geometry_clips.specs.declared.clip.Clip.the-variants as is
+use Rattle.geometry_clips.specs.declared.clip_rect.ClipRect.{ClipRect}
+use Rattle.geometry_clips.specs.declared.clip_rect.ClipRect.the-variants as of
+use Rattle.geometry_clips.specs.Clips.{clipRect, clipRadii}
+use Rattle.index_types.proofs.flat_tables.Segments.{same, other}
+use Rattle.node_tables.specs.Tables.{rectOf, ofRect, rectAt, putRect, insetsOf, ofInsets, insetsAt, putInsets, affineOf, ofAffine, affineAt, putAffine, squareOf, roundedOf, clipAt, kindOf, edgesFrom, edgesOf, ofClip, putClip, clipRectAt, isThere, putClipRect}
 
 module _ (l : List Float) (i : ℕ) where
   pub rect-same : (r : Rect) → 4 * i + 4 ≤ length l → rectAt (putRect l i r) i ≡ r

@@ -1,1 +1,3 @@
+pub mod boxes
+pub mod clip_reads
 pub mod Tables

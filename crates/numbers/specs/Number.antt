@@ -2,7 +2,6 @@
 -- lib.Ieee's `eq`: −0 equals +0, and a NaN equals nothing.
 use mathlib.Core.Bool.{Bool, true, false, _&&_, cond, Bool·beq}
 use lib.Dec.{eqb}
-use lib.IntN.{ℤ}
 use lib.Signed.{leZ}
 use lib.Ieee.{Float, nan, inf, fin, isNan, lt}
 

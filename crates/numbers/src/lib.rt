@@ -1,11 +1,11 @@
 // f64: minimum, maximum, absolute value and finiteness, as kurbo takes them from the standard library of Rust.
 ghost use mathlib.Core.Path.{_≡_};
 ghost use lib.Ieee.Scale.{finite};
-ghost use Rattle.numbers.specs.Number.{minimum, maximum, magnitude, same};
+ghost use Rattle.numbers.specs.Number as spec;
 
 // f64::min: one NaN gives the other operand, equal operands give the first.
 pub fn min(x: f64, y: f64) -> f64
-    ensures { λ r. ⌜ r ≡ minimum x y ⌝ }
+    ensures { λ r. ⌜ r ≡ spec.minimum x y ⌝ }
 {
     if x != x {
         return y;
@@ -15,7 +15,7 @@ pub fn min(x: f64, y: f64) -> f64
 
 // f64::max, with the same two rules.
 pub fn max(x: f64, y: f64) -> f64
-    ensures { λ r. ⌜ r ≡ maximum x y ⌝ }
+    ensures { λ r. ⌜ r ≡ spec.maximum x y ⌝ }
 {
     if x != x {
         return y; // not x, a NaN
@@ -25,7 +25,7 @@ pub fn max(x: f64, y: f64) -> f64
 
 // f64::abs: −0 becomes +0.
 pub fn abs(x: f64) -> f64
-    ensures { λ r. ⌜ r ≡ magnitude x ⌝ }
+    ensures { λ r. ⌜ r ≡ spec.magnitude x ⌝ }
 {
     if x < 0.0 {
         return -x;
@@ -43,7 +43,7 @@ pub fn is_finite(x: f64) -> bool
 
 // Equality to the bit: a zero's sign counts, and a NaN is the same as a NaN.
 pub fn same(x: f64, y: f64) -> bool
-    ensures { λ r. ⌜ r ≡ same x y ⌝ }
+    ensures { λ r. ⌜ r ≡ spec.same x y ⌝ }
 {
     if x != x {
         return y != y;

@@ -1,41 +1,31 @@
 -- More worked rows of the plan's definitions, each by computation: cases that a careless reading of document 01 gets wrong.
-use Prim.Native.Nat.{ℕ, zero, suc, _+_, _*_, _^_}
+use Prim.Native.Nat.{ℕ, zero, suc, _*_, _^_}
 use mathlib.Core.Path.{_≡_, refl}
-use mathlib.Core.Bool.{Bool, true, false}
+use mathlib.Core.Bool.{true, false}
 use mathlib.Core.List.{List, [], _∷_, _++_}
 use lib.IntN.{ℤ, pos, negsuc}
-use lib.Ieee.{Float, nan, inf, fin, binary64, round, units, odd, size, span, climb, neg, add, sub, mul, div, eq, le, lt, isNan}
+use lib.Ieee.{Float, nan, inf, binary64, round, neg}
 use Rattle.numbers.specs.Rounded as fl
-use Rattle.geometry_parts.specs.declared.insets.Insets.{Insets}
-use Rattle.worlds.specs.declared.Placed.{Placed}
-use Rattle.numbers.specs.Number.{minimum, maximum, magnitude}
-use Rattle.geometry_parts.specs.declared.point.Point.{Point}
+use Rattle.geometry.specs.declared.insets.Insets.{Insets}
 use Rattle.geometry.specs.declared.rect.Rect.{Rect}
-use Rattle.geometry.specs.Rectangle.{rect, hasArea, ordered, intersection, contains, plusInsets, rectEq, insetsEq, noInsets, finiteRect, finiteInsets}
-use Rattle.transforms.specs.declared.affine.Affine.{Affine}
-use Rattle.transforms.specs.Transform.{identity, mapped, product, inverse, affineEq, finiteAffine}
-use Rattle.transform_boxes.specs.Bbox.{transformRectBbox}
-use Rattle.clips.specs.declared.clip.Clip.{Clip}
-use Rattle.clips.specs.declared.clip.Clip.the-variants as is
-use Rattle.clips.specs.Clips.{clipRect, clipRadii, fitted, shaped, constructed, quadrant, excess, insideRounded, inside, clipRectEq, clipEq, finiteClipRect, finiteClip}
-use Rattle.boxes.specs.declared.NodeId.{NodeId}
-use Rattle.boxes.specs.Boxes.{containsPoint, overlaps}
-use Rattle.worlds.specs.World.{image, meetOwn, meet, clipped, placed, worldBox, hitBox, reached}
-use Rattle.box_types.specs.declared.LocalNode.{LocalNode}
-use Rattle.box_types.specs.declared.NodeFlags.{NodeFlags}
-use Rattle.box_types.specs.declared.OptionNodeId.{OptionNodeId}
-use Rattle.box_types.specs.declared.OptionNodeId.the-variants as node
-use Rattle.box_types.specs.Local.{flags, hasAll, noInset, finiteLocal, stored}
-use Rattle.forest.specs.Forest.{pre, post, has, cat, under, remove, roots, spot, depth, children, path}
-use Rattle.plan.specs.Lists.{keep, any, joined, upTo, insertSorted, sorted}
-use Rattle.plan.specs.Plan.{Plan, Mark, Entry, number, empty, changedInBoth, idOf, nodes, generationFrom, needsCommit, newId, inserted, removed, moved}
-use Rattle.plan.specs.Visits.{starts, visits, enter, committed}
-use Rattle.plan.specs.Afresh.{placedOn, worldPlace, worldBounds, worldHitBounds, inClips, candidate, larger, largest, Tap, nothing, hit, tap, meetsRect, meetsPoint, inEntryOrder, listRect, listPoint, redactLocal, redact}
+use Rattle.geometry.specs.Rectangle.{rect}
+use Rattle.geometry.specs.declared.affine.Affine.{Affine}
+use Rattle.geometry.specs.Transform.{identity}
+use Rattle.geometry_clips.specs.declared.clip.Clip.{Clip}
+use Rattle.geometry_clips.specs.declared.clip.Clip.the-variants as is
+use Rattle.tree_types.specs.declared.LocalNode.{LocalNode}
+use Rattle.tree_types.specs.declared.OptionNodeId.the-variants as node
+use Rattle.tree_types.specs.Local.{flags, noInset}
+use Rattle.link_forest.specs.Forest.{children}
+use Rattle.plan.specs.Plan.{Plan, number, empty, generationFrom}
+use Rattle.plan.specs.Visits.{visits}
+use Rattle.plan.specs.Afresh.{worldPlace, worldBounds, worldHitBounds, nothing, hit, tap, listRect, listPoint, redactLocal, redact}
 use Rattle.plan.specs.Calls as call
-use Rattle.plan.specs.Calls.{Call, lowest, refusal, accepted, step}
-use Rattle.plan.specs.Calls.{Outcome, outcome}
+use Rattle.plan.specs.Calls.{Call, step}
+use Rattle.plan.specs.Calls.{outcome}
 use Rattle.plan.specs.Demand as demand
-use Rattle.plan.specs.Demand.{run, outcomes, answer, Answer}
+use Rattle.plan.specs.Demand.{outcomes, answer}
+use Rattle.plan.proofs.Rows as rows
 use Rattle.plan.proofs.Rows.{num, point, id, local, ten, turn, shifted, grown, root, child, settle, after, next, listing, needs, told, tapped, a, b, c}
 
 -- a whole local record, and shorter ways to write values
@@ -72,6 +62,11 @@ gone (suc n) = gone n ++ (call.remove (id n 1) ∷ [])
 unfoldable pub twice : ℕ → Plan
 twice n = after (roots-of n ++ (settle ∷ (gone n ++ (roots-of n ++ (settle ∷ [])))))
 
+-- what the cases compute through
+unfoldable pub computed : Unit {0}
+unfolding rows.computed gone twice whole big small rec node-with roots-of scaled rounded5 outcome outcomes answer
+computed = tt
+
 -- slots, removals and moves
 pub structure : (next (root ∷ child a ∷ child a ∷ call.remove a ∷ root ∷ root ∷ []) ≡ id 1 2)  -- third slot
     × (next (root ∷ root ∷ call.remove a ∷ call.remove b ∷ []) ≡ id 1 2)  -- last freed of two
@@ -83,7 +78,7 @@ pub structure : (next (root ∷ child a ∷ child a ∷ call.remove a ∷ root �
     × (told (root ∷ child a ∷ child b ∷ child a ∷ call.remove b ∷ []) (call.remove c) ≡ 2)  -- removed below
     × (told (root ∷ child a ∷ child b ∷ child a ∷ call.remove b ∷ []) (call.remove (id 3 1)) ≡ 0)  -- kept beside
     × (generationFrom (0 ∷ []) (λ x. 4294967295) ≡ 4294967295)  -- saturates
-unfolding num point id local ten turn shifted grown root child settle after next listing needs told tapped a b c run step refusal lowest accepted inserted removed moved committed needsCommit starts visits enter keep any joined upTo insertSorted sorted pre post has cat under remove roots spot hasAll finiteLocal stored finiteRect finiteInsets finiteAffine finiteClip finiteClipRect affineEq rectEq insetsEq clipEq clipRectEq constructed clipRect clipRadii fitted shaped quadrant excess insideRounded inside ordered intersection contains plusInsets noInsets mapped product inverse transformRectBbox containsPoint overlaps image meetOwn meet clipped placed worldBox hitBox reached placedOn worldBounds worldHitBounds inClips candidate larger largest tap meetsRect meetsPoint inEntryOrder listRect listPoint redactLocal redact minimum maximum magnitude round units odd size span climb neg add sub mul div eq le lt isNan gone twice whole big small rec node-with roots-of scaled rounded5 outcome outcomes answer
+unfolding computed
 structure = (refl, refl, refl, refl, refl, refl, refl, refl, refl, refl)
 
 -- what setters store and mark
@@ -107,7 +102,7 @@ pub setters : (tapped (root ∷ settle ∷ call.set-local-bounds a (rect (num 20
     × (needs (root ∷ call.set-z-index a (pos 1) ∷ []) ≡ true)  -- level keeps mark
     × (needs (root ∷ call.set-flags a (flags 0) ∷ []) ≡ true)  -- flags keep mark
     × (visits (after (root ∷ child a ∷ settle ∷ call.set-local-transform a (shifted 1 0) ∷ call.set-z-index a (pos 1) ∷ [])) ≡ 0 ∷ 1 ∷ [])  -- level keeps change
-unfolding num point id local ten turn shifted grown root child settle after next listing needs told tapped a b c run step refusal lowest accepted inserted removed moved committed needsCommit starts visits enter keep any joined upTo insertSorted sorted pre post has cat under remove roots spot hasAll finiteLocal stored finiteRect finiteInsets finiteAffine finiteClip finiteClipRect affineEq rectEq insetsEq clipEq clipRectEq constructed clipRect clipRadii fitted shaped quadrant excess insideRounded inside ordered intersection contains plusInsets noInsets mapped product inverse transformRectBbox containsPoint overlaps image meetOwn meet clipped placed worldBox hitBox reached placedOn worldBounds worldHitBounds inClips candidate larger largest tap meetsRect meetsPoint inEntryOrder listRect listPoint redactLocal redact minimum maximum magnitude round units odd size span climb neg add sub mul div eq le lt isNan gone twice whole big small rec node-with roots-of scaled rounded5 outcome outcomes answer
+unfolding computed
 setters = (refl, refl, refl, refl, refl, refl, refl, refl, refl, refl, refl, refl, refl, refl, refl, refl, refl, refl, refl, refl)
 
 -- the lowest number that applies
@@ -135,7 +130,7 @@ pub numbers-of-refusal : (told [] (call.insert (node.Some a) (grown nan)) ≡ 3)
     × (told (roots-of 255) root ≡ 0)  -- not full
     × (told (roots-of 256) (call.insert node.None (rec (whole 10) noInset identity is.None (pos 0) 8)) ≡ 6)  -- 6 before 9
     × (told (roots-of 256 ++ (call.remove (id 7 1) ∷ [])) root ≡ 0)  -- after a removal
-unfolding num point id local ten turn shifted grown root child settle after next listing needs told tapped a b c run step refusal lowest accepted inserted removed moved committed needsCommit starts visits enter keep any joined upTo insertSorted sorted pre post has cat under remove roots spot hasAll finiteLocal stored finiteRect finiteInsets finiteAffine finiteClip finiteClipRect affineEq rectEq insetsEq clipEq clipRectEq constructed clipRect clipRadii fitted shaped quadrant excess insideRounded inside ordered intersection contains plusInsets noInsets mapped product inverse transformRectBbox containsPoint overlaps image meetOwn meet clipped placed worldBox hitBox reached placedOn worldBounds worldHitBounds inClips candidate larger largest tap meetsRect meetsPoint inEntryOrder listRect listPoint redactLocal redact minimum maximum magnitude round units odd size span climb neg add sub mul div eq le lt isNan gone twice whole big small rec node-with roots-of scaled rounded5 outcome outcomes answer
+unfolding computed
 numbers-of-refusal = (refl, refl, refl, refl, refl, refl, refl, refl, refl, refl, refl, refl, refl, refl, refl, refl, refl, refl, refl, refl, refl, refl, refl, refl)
 
 -- entries taken and freed
@@ -152,7 +147,7 @@ pub entries : (listing (root ∷ root ∷ root ∷ settle ∷ call.remove a ∷ 
     × (visits (after (root ∷ root ∷ settle ∷ call.reparent a (node.Some b) ∷ [])) ≡ 0 ∷ [])  -- covered by a later start
     × (visits (after (root ∷ root ∷ call.reparent a (node.Some b) ∷ [])) ≡ 1 ∷ 0 ∷ [])  -- covered although sorted first
     × (visits (after (root ∷ child a ∷ child b ∷ settle ∷ call.reparent b node.None ∷ call.set-local-transform a (shifted 1 0) ∷ [])) ≡ 0 ∷ 1 ∷ 2 ∷ [])  -- unmarked inside a walk
-unfolding num point id local ten turn shifted grown root child settle after next listing needs told tapped a b c run step refusal lowest accepted inserted removed moved committed needsCommit starts visits enter keep any joined upTo insertSorted sorted pre post has cat under remove roots spot hasAll finiteLocal stored finiteRect finiteInsets finiteAffine finiteClip finiteClipRect affineEq rectEq insetsEq clipEq clipRectEq constructed clipRect clipRadii fitted shaped quadrant excess insideRounded inside ordered intersection contains plusInsets noInsets mapped product inverse transformRectBbox containsPoint overlaps image meetOwn meet clipped placed worldBox hitBox reached placedOn worldBounds worldHitBounds inClips candidate larger largest tap meetsRect meetsPoint inEntryOrder listRect listPoint redactLocal redact minimum maximum magnitude round units odd size span climb neg add sub mul div eq le lt isNan gone twice whole big small rec node-with roots-of scaled rounded5 outcome outcomes answer
+unfolding computed
 entries = (refl, refl, refl, refl, refl, refl, refl, refl, refl, refl, refl, refl, refl)
 
 -- world boxes, taps and listings
@@ -208,19 +203,19 @@ pub worlds : (worldBounds (after (node-with (whole 10) noInset (turn 100 0) (is.
     × (worldHitBounds (after (call.insert node.None (grown (num 5)) ∷ [])) 0 ≡ rect (neg (num 5)) (neg (num 5)) (num 15) (num 15))  -- hit box with slop
     × (tapped (root ∷ child a ∷ settle ∷ call.set-local-transform a (shifted 20 0) ∷ settle ∷ call.set-local-transform a (shifted 40 0) ∷ settle ∷ []) (point 45 5) ≡ hit b (a ∷ b ∷ []))  -- second commit
     × (tapped (root ∷ child a ∷ settle ∷ call.set-local-transform a (shifted 20 0) ∷ settle ∷ call.set-local-transform a (shifted 40 0) ∷ settle ∷ []) (point 25 5) ≡ nothing)  -- old place
-unfolding num point id local ten turn shifted grown root child settle after next listing needs told tapped a b c run step refusal lowest accepted inserted removed moved committed needsCommit starts visits enter keep any joined upTo insertSorted sorted pre post has cat under remove roots spot hasAll finiteLocal stored finiteRect finiteInsets finiteAffine finiteClip finiteClipRect affineEq rectEq insetsEq clipEq clipRectEq constructed clipRect clipRadii fitted shaped quadrant excess insideRounded inside ordered intersection contains plusInsets noInsets mapped product inverse transformRectBbox containsPoint overlaps image meetOwn meet clipped placed worldBox hitBox reached placedOn worldBounds worldHitBounds inClips candidate larger largest tap meetsRect meetsPoint inEntryOrder listRect listPoint redactLocal redact minimum maximum magnitude round units odd size span climb neg add sub mul div eq le lt isNan gone twice whole big small rec node-with roots-of scaled rounded5 outcome outcomes answer
+unfolding computed
 worlds = (refl, refl, refl, refl, refl, refl, refl, refl, refl, refl, refl, refl, refl, refl, refl, refl, refl, refl, refl, refl, refl, refl, refl, refl, refl, refl, refl, refl, refl, refl, refl, refl, refl, refl, refl, refl, refl, refl, refl, refl, refl, refl, refl, refl, refl, refl, refl, refl, refl, refl, refl, refl)
 
 -- what counts as changed
 pub changed : (after (root ∷ []) .mark 0 ≡ record { marked = true; transform = true; clip = true })  -- new in both
     × (after (root ∷ settle ∷ call.reparent a node.None ∷ []) .mark 0 ≡ record { marked = true; transform = true; clip = true })  -- moved in both
-unfolding num point id local ten turn shifted grown root child settle after next listing needs told tapped a b c run step refusal lowest accepted inserted removed moved committed needsCommit starts visits enter keep any joined upTo insertSorted sorted pre post has cat under remove roots spot hasAll finiteLocal stored finiteRect finiteInsets finiteAffine finiteClip finiteClipRect affineEq rectEq insetsEq clipEq clipRectEq constructed clipRect clipRadii fitted shaped quadrant excess insideRounded inside ordered intersection contains plusInsets noInsets mapped product inverse transformRectBbox containsPoint overlaps image meetOwn meet clipped placed worldBox hitBox reached placedOn worldBounds worldHitBounds inClips candidate larger largest tap meetsRect meetsPoint inEntryOrder listRect listPoint redactLocal redact minimum maximum magnitude round units odd size span climb neg add sub mul div eq le lt isNan gone twice whole big small rec node-with roots-of scaled rounded5 outcome outcomes answer
+unfolding computed
 changed = (refl, refl)
 
 -- redaction, as whole records
 pub redacted : (redactLocal (flags 3) (rec (whole 10) (record { x0 = num 5; y0 = num 5; x1 = num 5; y1 = num 5 }) (shifted 1 0) (is.Square fl.zero fl.zero (num 10) (num 10)) (pos 9) 1) ≡ rec (whole 0) noInset (shifted 1 0) (is.Square fl.zero fl.zero (num 10) (num 10)) (pos 0) 1)  -- redacted
     × (redactLocal (flags 1) (rec (whole 10) (record { x0 = num 5; y0 = num 5; x1 = num 5; y1 = num 5 }) (shifted 1 0) (is.Square fl.zero fl.zero (num 10) (num 10)) (pos 9) 1) ≡ rec (whole 10) (record { x0 = num 5; y0 = num 5; x1 = num 5; y1 = num 5 }) (shifted 1 0) (is.Square fl.zero fl.zero (num 10) (num 10)) (pos 9) 1)  -- shown
-unfolding num point id local ten turn shifted grown root child settle after next listing needs told tapped a b c run step refusal lowest accepted inserted removed moved committed needsCommit starts visits enter keep any joined upTo insertSorted sorted pre post has cat under remove roots spot hasAll finiteLocal stored finiteRect finiteInsets finiteAffine finiteClip finiteClipRect affineEq rectEq insetsEq clipEq clipRectEq constructed clipRect clipRadii fitted shaped quadrant excess insideRounded inside ordered intersection contains plusInsets noInsets mapped product inverse transformRectBbox containsPoint overlaps image meetOwn meet clipped placed worldBox hitBox reached placedOn worldBounds worldHitBounds inClips candidate larger largest tap meetsRect meetsPoint inEntryOrder listRect listPoint redactLocal redact minimum maximum magnitude round units odd size span climb neg add sub mul div eq le lt isNan gone twice whole big small rec node-with roots-of scaled rounded5 outcome outcomes answer
+unfolding computed
 redacted = (refl, refl)
 
 -- outcomes: ids are handed out where a call is accepted
@@ -228,13 +223,13 @@ pub handed-out : (outcomes step outcome empty (root ∷ child b ∷ child a ∷ 
     × (answer (redact (flags 3) (after (root ∷ child a ∷ settle ∷ call.set-flags b (flags 1) ∷ []))) (flags 3) 512 (call.hit-test-point (point 5 5)) ≡ demand.tapped (hit a (a ∷ [])))  -- answer
     × (answer (redact (flags 3) (after (root ∷ []))) (flags 3) 512 (call.hit-test-point (point 5 5)) ≡ demand.refused 7)  -- answer
     × (answer (redact (flags 3) (after (root ∷ root ∷ settle ∷ []))) (flags 3) 512 (call.intersect-rect (whole 5)) ≡ demand.listed (a ∷ b ∷ []))  -- answer
-unfolding num point id local ten turn shifted grown root child settle after next listing needs told tapped a b c run step refusal lowest accepted inserted removed moved committed needsCommit starts visits enter keep any joined upTo insertSorted sorted pre post has cat under remove roots spot hasAll finiteLocal stored finiteRect finiteInsets finiteAffine finiteClip finiteClipRect affineEq rectEq insetsEq clipEq clipRectEq constructed clipRect clipRadii fitted shaped quadrant excess insideRounded inside ordered intersection contains plusInsets noInsets mapped product inverse transformRectBbox containsPoint overlaps image meetOwn meet clipped placed worldBox hitBox reached placedOn worldBounds worldHitBounds inClips candidate larger largest tap meetsRect meetsPoint inEntryOrder listRect listPoint redactLocal redact minimum maximum magnitude round units odd size span climb neg add sub mul div eq le lt isNan gone twice whole big small rec node-with roots-of scaled rounded5 outcome outcomes answer
+unfolding computed
 handed-out = (refl, refl, refl, refl)
 
 -- limits
 pub many : (twice 16 .entries .entry 0 ≡ number 16)  -- sixteen removed and sixteen new
     × (twice 16 .entries .used ≡ 32)  -- their entries
-unfolding num point id local ten turn shifted grown root child settle after next listing needs told tapped a b c run step refusal lowest accepted inserted removed moved committed needsCommit starts visits enter keep any joined upTo insertSorted sorted pre post has cat under remove roots spot hasAll finiteLocal stored finiteRect finiteInsets finiteAffine finiteClip finiteClipRect affineEq rectEq insetsEq clipEq clipRectEq constructed clipRect clipRadii fitted shaped quadrant excess insideRounded inside ordered intersection contains plusInsets noInsets mapped product inverse transformRectBbox containsPoint overlaps image meetOwn meet clipped placed worldBox hitBox reached placedOn worldBounds worldHitBounds inClips candidate larger largest tap meetsRect meetsPoint inEntryOrder listRect listPoint redactLocal redact minimum maximum magnitude round units odd size span climb neg add sub mul div eq le lt isNan gone twice whole big small rec node-with roots-of scaled rounded5 outcome outcomes answer
+unfolding computed
 many = (refl, refl)
 
 -- what calls for a commit, and what is refused meanwhile
@@ -271,7 +266,7 @@ pub requests : (needs (root ∷ settle ∷ call.set-local-bounds a (rect fl.zero
     × (told (root ∷ []) (call.read (call.prev-depth-first b)) ≡ 2)  -- prev depth first
     × (told (root ∷ []) (call.read (call.prev-depth-first a)) ≡ 0)  -- prev depth first
     × (told (root ∷ []) (call.read (call.children-of a 512)) ≡ 0)  -- children
-unfolding num point id local ten turn shifted grown root child settle after next listing needs told tapped a b c run step refusal lowest accepted inserted removed moved committed needsCommit starts visits enter keep any joined upTo insertSorted sorted pre post has cat under remove roots spot hasAll finiteLocal stored finiteRect finiteInsets finiteAffine finiteClip finiteClipRect affineEq rectEq insetsEq clipEq clipRectEq constructed clipRect clipRadii fitted shaped quadrant excess insideRounded inside ordered intersection contains plusInsets noInsets mapped product inverse transformRectBbox containsPoint overlaps image meetOwn meet clipped placed worldBox hitBox reached placedOn worldBounds worldHitBounds inClips candidate larger largest tap meetsRect meetsPoint inEntryOrder listRect listPoint redactLocal redact minimum maximum magnitude round units odd size span climb neg add sub mul div eq le lt isNan gone twice whole big small rec node-with roots-of scaled rounded5 outcome outcomes answer
+unfolding computed
 requests = (refl, refl, refl, refl, refl, refl, refl, refl, refl, refl, refl, refl, refl, refl, refl, refl, refl, refl, refl, refl, refl, refl, refl, refl, refl, refl, refl, refl, refl, refl, refl, refl, refl)
 
 -- the whole local record after each setter
@@ -281,5 +276,5 @@ pub records : (after (call.insert node.None (rec (rect fl.one fl.one (num 8) (nu
     × (after (call.insert node.None (rec (rect fl.one fl.one (num 8) (num 9)) (record { x0 = num 1; y0 = num 2; x1 = num 3; y1 = num 4 }) (shifted 7 8) (is.Square (num 20) (num 20) (num 30) (num 30)) (pos 6) 5) ∷ call.set-local-clip a (is.Square fl.zero fl.zero (num 10) (num 10)) ∷ []) .local 0 ≡ rec (rect fl.one fl.one (num 8) (num 9)) (record { x0 = num 1; y0 = num 2; x1 = num 3; y1 = num 4 }) (shifted 7 8) (is.Square fl.zero fl.zero (num 10) (num 10)) (pos 6) 5)  -- clip only
     × (after (call.insert node.None (rec (rect fl.one fl.one (num 8) (num 9)) (record { x0 = num 1; y0 = num 2; x1 = num 3; y1 = num 4 }) (shifted 7 8) (is.Square (num 20) (num 20) (num 30) (num 30)) (pos 6) 5) ∷ call.set-z-index a (negsuc 3) ∷ []) .local 0 ≡ rec (rect fl.one fl.one (num 8) (num 9)) (record { x0 = num 1; y0 = num 2; x1 = num 3; y1 = num 4 }) (shifted 7 8) (is.Square (num 20) (num 20) (num 30) (num 30)) (negsuc 3) 5)  -- level only
     × (after (call.insert node.None (rec (rect fl.one fl.one (num 8) (num 9)) (record { x0 = num 1; y0 = num 2; x1 = num 3; y1 = num 4 }) (shifted 7 8) (is.Square (num 20) (num 20) (num 30) (num 30)) (pos 6) 5) ∷ call.set-flags a (flags 2) ∷ []) .local 0 ≡ rec (rect fl.one fl.one (num 8) (num 9)) (record { x0 = num 1; y0 = num 2; x1 = num 3; y1 = num 4 }) (shifted 7 8) (is.Square (num 20) (num 20) (num 30) (num 30)) (pos 6) 2)  -- flags only
-unfolding num point id local ten turn shifted grown root child settle after next listing needs told tapped a b c run step refusal lowest accepted inserted removed moved committed needsCommit starts visits enter keep any joined upTo insertSorted sorted pre post has cat under remove roots spot hasAll finiteLocal stored finiteRect finiteInsets finiteAffine finiteClip finiteClipRect affineEq rectEq insetsEq clipEq clipRectEq constructed clipRect clipRadii fitted shaped quadrant excess insideRounded inside ordered intersection contains plusInsets noInsets mapped product inverse transformRectBbox containsPoint overlaps image meetOwn meet clipped placed worldBox hitBox reached placedOn worldBounds worldHitBounds inClips candidate larger largest tap meetsRect meetsPoint inEntryOrder listRect listPoint redactLocal redact minimum maximum magnitude round units odd size span climb neg add sub mul div eq le lt isNan gone twice whole big small rec node-with roots-of scaled rounded5 outcome outcomes answer
+unfolding computed
 records = (refl, refl, refl, refl, refl, refl)

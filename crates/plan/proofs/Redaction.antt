@@ -1,26 +1,20 @@
 -- The redaction lemma: what is withheld shows in no answer. A node that lacks an asked flag is no candidate and is not listed, and no other
 -- node's world records read its bounds, slop or level.
 use Prim.Native.Nat.{ℕ, zero, suc}
-use mathlib.Core.Path.{_≡_, refl, sym, ap, _∙_}
-use mathlib.Core.Bool.{Bool, true, false, not, _&&_, _||_, cond, and-false}
-use mathlib.Core.List.{List, [], _∷_, map}
-use Rattle.geometry_parts.specs.declared.point.Point.{Point}
+use mathlib.Core.Path.{_≡_, refl}
+use mathlib.Core.Bool.{Bool, true, false, _&&_}
+use mathlib.Core.List.{List, [], _∷_}
+use Rattle.geometry.specs.declared.point.Point.{Point}
 use Rattle.geometry.specs.declared.rect.Rect.{Rect}
-use Rattle.boxes.specs.declared.NodeId.{NodeId}
-use Rattle.boxes.specs.Boxes.{containsPoint, overlaps}
-use Rattle.worlds.specs.World.{atRoot, placed, worldBox, hitBox, reached}
-use Rattle.transforms.specs.Transform.{mapped, inverse}
-use Rattle.clips.specs.Clips.{inside}
-use Rattle.box_types.specs.declared.NodeFlags.{NodeFlags}
-use Rattle.box_types.specs.declared.LocalNode.{LocalNode}
-use Rattle.box_types.specs.Local.{hasAll, rectToAabb}
-use Rattle.forest.specs.Forest.{above}
+use Rattle.tree_types.specs.declared.NodeFlags.{NodeFlags}
+use Rattle.tree_types.specs.Local.{hasAll}
+use Rattle.link_forest.specs.Forest.{above}
 use Rattle.plan.specs.Lists.{keep}
-use Rattle.plan.specs.Plan.{Plan, nodes, idOf, needsCommit}
-use Rattle.plan.specs.Afresh.{placedOn, worldPlace, worldBounds, worldHitBounds, inClips, candidate, larger, Hit, nothing, node, better, largest, Tap, tapOf, tap, meetsRect, meetsPoint, inEntryOrder, listRect, listPoint, withheld, redactLocal, redact}
+use Rattle.plan.specs.Plan.{Plan, nodes, needsCommit}
+use Rattle.plan.specs.Afresh.{placedOn, worldPlace, worldBounds, worldHitBounds, inClips, candidate, larger, Hit, nothing, node, better, largest, tapOf, tap, meetsRect, meetsPoint, inEntryOrder, listRect, listPoint, redactLocal, redact}
 use Rattle.plan.specs.Calls as call
 use Rattle.plan.specs.Calls.{Request, lowest, conditionsOfRequest}
-use Rattle.plan.specs.Demand.{Answer, tapped, listed, defined, answerIf, answer}
+use Rattle.plan.specs.Demand.{defined, answerIf, answer}
 
 -- ---- lists
 

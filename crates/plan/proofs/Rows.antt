@@ -1,30 +1,27 @@
 -- Worked rows of the plan's definitions, each by computation: document 01's examples, and the orders that a careless reading gets wrong.
-use Prim.Native.Nat.{ℕ, _+_}
+use Prim.Native.Nat.{ℕ}
 use mathlib.Core.Path.{_≡_, refl}
 use mathlib.Core.Bool.{Bool, true, false}
-use mathlib.Core.List.{List, [], _∷_, _++_}
+use mathlib.Core.List.{List, [], _∷_}
 use lib.IntN.{ℤ, pos, negsuc}
 use lib.Ieee.{Float, nan, binary64, round, units, odd, size, span, climb, neg, add, sub, mul, div, eq, le, lt, isNan}
 use Rattle.numbers.specs.Rounded.{zero, one}
 use Rattle.numbers.specs.Number.{minimum, maximum, magnitude}
-use Rattle.geometry_parts.specs.declared.point.Point.{Point}
-use Rattle.geometry.specs.declared.rect.Rect.{Rect}
-use Rattle.geometry.specs.Rectangle.{rect, hasArea, ordered, intersection, contains, plusInsets, rectEq, insetsEq, noInsets, finiteRect, finiteInsets}
-use Rattle.transforms.specs.declared.affine.Affine.{Affine}
-use Rattle.transforms.specs.Transform.{identity, mapped, product, inverse, affineEq, finiteAffine}
-use Rattle.transform_boxes.specs.Bbox.{transformRectBbox}
-use Rattle.clips.specs.declared.clip.Clip.{Clip}
-use Rattle.clips.specs.declared.clip.Clip.the-variants as is
-use Rattle.clips.specs.Clips.{clipRect, clipRadii, fitted, shaped, constructed, quadrant, excess, insideRounded, inside, clipRectEq, clipEq, finiteClipRect, finiteClip}
-use Rattle.boxes.specs.declared.NodeId.{NodeId}
-use Rattle.boxes.specs.Boxes.{containsPoint, overlaps}
-use Rattle.worlds.specs.World.{image, meetOwn, meet, clipped, placed, worldBox, hitBox, reached}
-use Rattle.box_types.specs.declared.LocalNode.{LocalNode}
-use Rattle.box_types.specs.declared.NodeFlags.{NodeFlags}
-use Rattle.box_types.specs.declared.OptionNodeId.{OptionNodeId}
-use Rattle.box_types.specs.declared.OptionNodeId.the-variants as node
-use Rattle.box_types.specs.Local.{flags, hasAll, noInset, finiteLocal, stored}
-use Rattle.forest.specs.Forest.{pre, post, has, cat, under, remove, roots, spot, depth, children}
+use Rattle.geometry.specs.declared.point.Point.{Point}
+use Rattle.geometry.specs.Rectangle.{rect, ordered, intersection, contains, plusInsets, rectEq, insetsEq, zeroInsets, finiteRect, finiteInsets}
+use Rattle.geometry.specs.declared.affine.Affine.{Affine}
+use Rattle.geometry.specs.Transform.{identity, mapped, product, inverse, affineEq, finiteAffine}
+use Rattle.geometry.specs.bbox.Bbox.{transformRectBbox}
+use Rattle.geometry_clips.specs.declared.clip.Clip.{Clip}
+use Rattle.geometry_clips.specs.declared.clip.Clip.the-variants as is
+use Rattle.geometry_clips.specs.Clips.{clipRect, clipRadii, fitted, shaped, constructed, quadrant, excess, insideRounded, inside, clipRectEq, clipEq, finiteClipRect, finiteClip}
+use Rattle.index_types.specs.declared.NodeId.{NodeId}
+use Rattle.index_types.specs.Boxes.{containsPoint, overlaps}
+use Rattle.tree_worlds.specs.World.{image, meetOwn, meet, clipped, placed, worldBox, hitBox, reached}
+use Rattle.tree_types.specs.declared.LocalNode.{LocalNode}
+use Rattle.tree_types.specs.declared.OptionNodeId.the-variants as node
+use Rattle.tree_types.specs.Local.{flags, hasAll, finiteLocal, stored, defaultLocal, withBounds, withSlop, withTransform, withClip, withLevel, withFlags}
+use Rattle.link_forest.specs.Forest.{pre, post, has, cat, under, remove, roots, spot, children}
 use Rattle.plan.specs.Lists.{keep, any, joined, upTo, insertSorted, sorted}
 use Rattle.plan.specs.Plan.{Plan, empty, needsCommit, newId, inserted, removed, moved}
 use Rattle.plan.specs.Visits.{starts, visits, enter, committed}
@@ -45,15 +42,7 @@ id x g = record { 0 = x; 1 = g }
 
 -- bounds 0 to n both ways, with this clip and level, visible and pickable
 unfoldable pub local : ℕ → Clip → ℤ → LocalNode
-local n c z =
-    record {
-      «local_bounds» = rect zero zero (num n) (num n);
-      «hit_slop» = noInset;
-      «local_transform» = identity;
-      «local_clip» = c;
-      «z_index» = z;
-      flags = flags 3;
-    }
+local n c z = withBounds (rect zero zero (num n) (num n)) (withClip c (withLevel z defaultLocal))
 
 unfoldable pub ten : LocalNode
 ten = local 10 is.None (pos 0)
@@ -96,15 +85,7 @@ unfoldable pub turn : ℕ → ℕ → Affine
 turn x y = record { a = zero; b = one; c = neg one; d = zero; e = num x; f = num y }
 
 unfoldable pub grown : Float → LocalNode
-grown s =
-    record {
-      «local_bounds» = rect zero zero (num 10) (num 10);
-      «hit_slop» = record { x0 = s; y0 = s; x1 = s; y1 = s };
-      «local_transform» = identity;
-      «local_clip» = is.None;
-      «z_index» = pos 0;
-      flags = flags 3;
-    }
+grown s = withBounds (rect zero zero (num 10) (num 10)) (withSlop (record { x0 = s; y0 = s; x1 = s; y1 = s }) defaultLocal)
 
 unfoldable pub needs : List Call → Bool
 needs cs = needsCommit (after cs)
@@ -114,6 +95,17 @@ told cs c = refusal (after cs) c
 
 unfoldable pub tapped : List Call → Point → Tap
 tapped cs pt = tap (after cs) (flags 3) pt
+
+-- what the rows compute through
+unfoldable pub computed : Unit {0}
+unfolding num point id local ten turn shifted grown root child settle after next listing needs told tapped a b c run step refusal lowest accepted
+    inserted removed moved committed needsCommit starts visits enter keep any joined upTo insertSorted sorted pre post has cat under remove roots spot
+    hasAll finiteLocal stored finiteRect finiteInsets finiteAffine finiteClip finiteClipRect affineEq rectEq insetsEq clipEq clipRectEq constructed
+    clipRect clipRadii fitted shaped quadrant excess insideRounded inside ordered intersection contains plusInsets zeroInsets mapped product inverse
+    transformRectBbox containsPoint overlaps image meetOwn meet clipped placed worldBox hitBox reached placedOn worldBounds worldHitBounds inClips
+    candidate larger largest tap meetsRect meetsPoint inEntryOrder listRect listPoint redactLocal redact minimum maximum magnitude round units odd
+    size span climb neg add sub mul div eq le lt isNan
+computed = tt
 
 -- ids and slots
 pub ids : (next [] ≡ id 0 1)  -- P2
@@ -125,7 +117,7 @@ pub ids : (next [] ≡ id 0 1)  -- P2
     × (children 0 (after (root ∷ child a ∷ child a ∷ call.reparent b (node.Some a) ∷ []) .links) ≡ 2 ∷ 1 ∷ [])  -- P5
     × (told (root ∷ call.remove a ∷ root ∷ []) (child a) ≡ 3)  -- a dead parent's slot in use again
     × (told [] (call.insert (node.Some (id 0 0)) ten) ≡ 3)  -- generation 0 names no node
-unfolding num point id local ten turn shifted grown root child settle after next listing needs told tapped a b c run step refusal lowest accepted inserted removed moved committed needsCommit starts visits enter keep any joined upTo insertSorted sorted pre post has cat under remove roots spot hasAll finiteLocal stored finiteRect finiteInsets finiteAffine finiteClip finiteClipRect affineEq rectEq insetsEq clipEq clipRectEq constructed clipRect clipRadii fitted shaped quadrant excess insideRounded inside ordered intersection contains plusInsets noInsets mapped product inverse transformRectBbox containsPoint overlaps image meetOwn meet clipped placed worldBox hitBox reached placedOn worldBounds worldHitBounds inClips candidate larger largest tap meetsRect meetsPoint inEntryOrder listRect listPoint redactLocal redact minimum maximum magnitude round units odd size span climb neg add sub mul div eq le lt isNan
+unfolding computed
 ids = (refl, refl, refl, refl, refl, refl, refl, refl, refl)
 
 -- what calls for a commit
@@ -140,7 +132,7 @@ pub needed : (needs (root ∷ []) ≡ true)
     × (needs (root ∷ settle ∷ call.reparent a node.None ∷ []) ≡ true)  -- a root moved to no parent is moved
     × (needs (root ∷ settle ∷ call.set-local-transform a (shifted 1 0) ∷ settle ∷ []) ≡ false)  -- a second commit
     × (needs (root ∷ root ∷ settle ∷ call.remove a ∷ settle ∷ []) ≡ false)
-unfolding num point id local ten turn shifted grown root child settle after next listing needs told tapped a b c run step refusal lowest accepted inserted removed moved committed needsCommit starts visits enter keep any joined upTo insertSorted sorted pre post has cat under remove roots spot hasAll finiteLocal stored finiteRect finiteInsets finiteAffine finiteClip finiteClipRect affineEq rectEq insetsEq clipEq clipRectEq constructed clipRect clipRadii fitted shaped quadrant excess insideRounded inside ordered intersection contains plusInsets noInsets mapped product inverse transformRectBbox containsPoint overlaps image meetOwn meet clipped placed worldBox hitBox reached placedOn worldBounds worldHitBounds inClips candidate larger largest tap meetsRect meetsPoint inEntryOrder listRect listPoint redactLocal redact minimum maximum magnitude round units odd size span climb neg add sub mul div eq le lt isNan
+unfolding computed
 needed = (refl, refl, refl, refl, refl, refl, refl, refl, refl, refl, refl)
 
 -- the lowest number that applies
@@ -156,7 +148,7 @@ pub refusals : (told [] (call.insert (node.Some a) (grown nan)) ≡ 3)
     × (told (root ∷ settle ∷ []) (call.request (call.hit-test-point (point 0 0)) (flags 3) 512) ≡ 0)
     × (told (root ∷ []) (call.reparent b (node.Some b)) ≡ 2)
     × (told (root ∷ child a ∷ call.remove b ∷ []) (call.reparent a (node.Some b)) ≡ 3)
-unfolding num point id local ten turn shifted grown root child settle after next listing needs told tapped a b c run step refusal lowest accepted inserted removed moved committed needsCommit starts visits enter keep any joined upTo insertSorted sorted pre post has cat under remove roots spot hasAll finiteLocal stored finiteRect finiteInsets finiteAffine finiteClip finiteClipRect affineEq rectEq insetsEq clipEq clipRectEq constructed clipRect clipRadii fitted shaped quadrant excess insideRounded inside ordered intersection contains plusInsets noInsets mapped product inverse transformRectBbox containsPoint overlaps image meetOwn meet clipped placed worldBox hitBox reached placedOn worldBounds worldHitBounds inClips candidate larger largest tap meetsRect meetsPoint inEntryOrder listRect listPoint redactLocal redact minimum maximum magnitude round units odd size span climb neg add sub mul div eq le lt isNan
+unfolding computed
 refusals = (refl, refl, refl, refl, refl, refl, refl, refl, refl, refl, refl, refl)
 
 -- the order of entries
@@ -173,7 +165,7 @@ pub orders : (listing (root ∷ root ∷ call.remove a ∷ root ∷ settle ∷ [
     × (visits (after (root ∷ child a ∷ settle ∷ call.set-local-bounds a (rect zero zero one one) ∷ [])) ≡ 0 ∷ [])
     × (visits (after (root ∷ child a ∷ settle ∷ call.set-local-bounds a (rect zero zero one one) ∷ call.set-local-bounds b (rect zero zero one one) ∷ [])) ≡ 0 ∷ 1 ∷ [])  -- such a mark covers nobody
     × (visits (after (root ∷ root ∷ child b ∷ settle ∷ call.reparent b (node.Some a) ∷ [])) ≡ 1 ∷ 2 ∷ [])  -- a moved node counts as changed
-unfolding num point id local ten turn shifted grown root child settle after next listing needs told tapped a b c run step refusal lowest accepted inserted removed moved committed needsCommit starts visits enter keep any joined upTo insertSorted sorted pre post has cat under remove roots spot hasAll finiteLocal stored finiteRect finiteInsets finiteAffine finiteClip finiteClipRect affineEq rectEq insetsEq clipEq clipRectEq constructed clipRect clipRadii fitted shaped quadrant excess insideRounded inside ordered intersection contains plusInsets noInsets mapped product inverse transformRectBbox containsPoint overlaps image meetOwn meet clipped placed worldBox hitBox reached placedOn worldBounds worldHitBounds inClips candidate larger largest tap meetsRect meetsPoint inEntryOrder listRect listPoint redactLocal redact minimum maximum magnitude round units odd size span climb neg add sub mul div eq le lt isNan
+unfolding computed
 orders = (refl, refl, refl, refl, refl, refl, refl, refl, refl, refl, refl)
 
 -- taps and listings
@@ -181,14 +173,7 @@ unfoldable pub places : List Call
 places =
     call.insert node.None (local 100 is.None (pos 0))
     ∷ call.insert (node.Some a)
-    (record {
-      «local_bounds» = rect zero zero (num 40) (num 20);
-      «hit_slop» = noInset;
-      «local_transform» = turn 100 0;
-      «local_clip» = is.None;
-      «z_index» = pos 0;
-      flags = flags 3;
-    })
+    (withBounds (rect zero zero (num 40) (num 20)) (withTransform (turn 100 0) defaultLocal))
     ∷ settle
     ∷ []
 
@@ -211,7 +196,7 @@ pub taps : (worldBounds (after places) 1 ≡ rect (num 80) zero (num 100) (num 4
     × (listing (call.insert node.None (grown (neg (num 6))) ∷ settle ∷ []) ≡ a ∷ [])
     × (listPoint (after (call.insert node.None (grown (neg (num 6))) ∷ settle ∷ [])) (flags 3) (point 1 1) ≡ [])
     × (tapped (call.insert node.None (local 10 is.None (pos 1)) ∷ call.insert node.None (local 10 is.None (negsuc 0)) ∷ settle ∷ []) (point 5 5) ≡ hit a (a ∷ []))  -- levels have signs
-unfolding num point id local ten turn shifted grown root child settle after next listing needs told tapped a b c run step refusal lowest accepted inserted removed moved committed needsCommit starts visits enter keep any joined upTo insertSorted sorted pre post has cat under remove roots spot hasAll finiteLocal stored finiteRect finiteInsets finiteAffine finiteClip finiteClipRect affineEq rectEq insetsEq clipEq clipRectEq constructed clipRect clipRadii fitted shaped quadrant excess insideRounded inside ordered intersection contains plusInsets noInsets mapped product inverse transformRectBbox containsPoint overlaps image meetOwn meet clipped placed worldBox hitBox reached placedOn worldBounds worldHitBounds inClips candidate larger largest tap meetsRect meetsPoint inEntryOrder listRect listPoint redactLocal redact minimum maximum magnitude round units odd size span climb neg add sub mul div eq le lt isNan places halfClip
+unfolding computed places halfClip
 taps = (refl, refl, refl, refl, refl, refl, refl, refl, refl, refl, refl, refl, refl, refl, refl, refl)
 
 -- a withheld parent: place 1 without flags, level 9, above place 2, with a clip 0 to 4
@@ -223,15 +208,8 @@ pub redaction : (tap (redact (flags 3) (after hidden)) (flags 3) (point 3 3) ≡
     × (tap (redact (flags 3) (after hidden)) (flags 3) (point 5 5) ≡ nothing)
     × (tap (redact (flags 0) (after hidden)) (flags 0) (point 3 3) ≡ hit a (a ∷ []))
     × (redact (flags 3) (after hidden) .local 0
-    ≡ record {
-      «local_bounds» = rect zero zero zero zero;
-      «hit_slop» = noInset;
-      «local_transform» = identity;
-      «local_clip» = is.Square zero zero (num 4) (num 4);
-      «z_index» = pos 0;
-      flags = flags 0;
-    })
+    ≡ withClip (is.Square zero zero (num 4) (num 4)) (withFlags (flags 0) defaultLocal))
     × (redact (flags 1) (after hidden) .local 1 ≡ ten)
     × (worldBounds (redact (flags 3) (after hidden)) 1 ≡ rect zero zero (num 4) (num 4))  -- its clip still counts
-unfolding num point id local ten turn shifted grown root child settle after next listing needs told tapped a b c run step refusal lowest accepted inserted removed moved committed needsCommit starts visits enter keep any joined upTo insertSorted sorted pre post has cat under remove roots spot hasAll finiteLocal stored finiteRect finiteInsets finiteAffine finiteClip finiteClipRect affineEq rectEq insetsEq clipEq clipRectEq constructed clipRect clipRadii fitted shaped quadrant excess insideRounded inside ordered intersection contains plusInsets noInsets mapped product inverse transformRectBbox containsPoint overlaps image meetOwn meet clipped placed worldBox hitBox reached placedOn worldBounds worldHitBounds inClips candidate larger largest tap meetsRect meetsPoint inEntryOrder listRect listPoint redactLocal redact minimum maximum magnitude round units odd size span climb neg add sub mul div eq le lt isNan hidden
+unfolding computed hidden
 redaction = (refl, refl, refl, refl, refl, refl)

@@ -1,15 +1,15 @@
 -- A list sorted by a strict order is settled by its members, so any two ways to sort agree.
-use Prim.Native.Nat.{ℕ, zero, suc, _+_, _≤_, _<_}
+use Prim.Native.Nat.{ℕ, _+_, _≤_, _<_}
 use mathlib.Core.Path.{_≡_, refl, sym, ap, _∙_}
-use mathlib.Core.Bool.{Bool, true, false, cond}
+use mathlib.Core.Bool.{Bool, true, false}
 use mathlib.Core.List.{List, [], _∷_}
 use native.Mathlib.Omega.{arith}
 use mathlib.Core.Bool.{_&&_, _||_}
 use mathlib.Core.Logic.{_⊎_, inl, inr, ⊎-elim}
-use native.Mathlib.Decide.{decLt, ℕ-discrete}
-use borrow.Author.Tests.{eqb-true, eqb-false, eq-eqb, ltb-true, ltb-false, lt-ltb}
+use native.Mathlib.Decide.{decLt}
+use borrow.Author.Tests.{eqb-true, eqb-false, eq-eqb, ltb-true, lt-ltb}
 use lib.Dec.{eqb, ltb}
-use Rattle.counting.specs.Times.{one, times}
+use Rattle.counting.specs.Times.{tally, times}
 use Rattle.counting.proofs.Counting.{hit, miss}
 use Rattle.plan.specs.Lists.{insertSorted, sorted}
 
@@ -51,12 +51,12 @@ module _ (before : ℕ → ℕ → Bool) where
 
     -- ---- what insertion leaves
 
-    pub times-inserted : (z x : ℕ) (ys : List ℕ) → times z (insertSorted before x ys) ≡ one (eqb z x) + times z ys
+    pub times-inserted : (z x : ℕ) (ys : List ℕ) → times z (insertSorted before x ys) ≡ tally (eqb z x) + times z ys
     unfolding times insertSorted
     times-inserted z x [] = refl
     times-inserted z x (y ∷ ys) = go (before x y) refl (times-inserted z x ys)
       where
-        go : (b : Bool) → before x y ≡ b → times z (insertSorted before x ys) ≡ one (eqb z x) + times z ys → times z (insertSorted before x (y ∷ ys)) ≡ one (eqb z x) + times z (y ∷ ys)
+        go : (b : Bool) → before x y ≡ b → times z (insertSorted before x ys) ≡ tally (eqb z x) + times z ys → times z (insertSorted before x (y ∷ ys)) ≡ tally (eqb z x) + times z (y ∷ ys)
         go true d ih = rw d
         go false d ih = rw (d, ih) (omega arith)
 
@@ -71,7 +71,7 @@ module _ (before : ℕ → ℕ → Bool) where
     rising-inserted x (y ∷ ys) n r = go (before x y) refl (rising-inserted x ys)
       where
         other : x ≡ y → ⊥
-        other q = let h : one (eqb x y) ≡ 1 = rw q (hit y) in absurd (omega (arith, n))
+        other q = let h : tally (eqb x y) ≡ 1 = rw q (hit y) in absurd (omega (arith, n))
 
         go : (b : Bool) → before x y ≡ b → (times x ys ≡ 0 → Rising ys → Rising (insertSorted before x ys)) → Rising (insertSorted before x (y ∷ ys))
         go true d ih = rw d (first, r)

@@ -1,23 +1,22 @@
 -- Taps and listings on a plan, worked out afresh from links, local records, ids and entry numbers.
-use Prim.Native.Nat.{ℕ, zero, suc}
+use Prim.Native.Nat.{ℕ}
 use mathlib.Core.Bool.{Bool, true, false, _&&_, _||_, cond}
-use mathlib.Core.List.{List, [], _∷_, _++_, map}
+use mathlib.Core.List.{List, [], _∷_, map}
 use lib.Dec.{eqb, ltb}
 use lib.IntN.{ℤ, pos}
 use lib.Signed.{ltZ, leZ}
-use Rattle.geometry_parts.specs.declared.point.Point.{Point}
+use Rattle.geometry.specs.declared.point.Point.{Point}
 use Rattle.geometry.specs.declared.rect.Rect.{Rect}
-use Rattle.transforms.specs.declared.affine.Affine.{Affine}
-use Rattle.transforms.specs.Transform.{mapped, inverse}
-use Rattle.clips.specs.Clips.{inside}
-use Rattle.boxes.specs.declared.NodeId.{NodeId}
-use Rattle.boxes.specs.Boxes.{containsPoint, overlaps}
-use Rattle.worlds.specs.declared.Placed.{Placed}
-use Rattle.worlds.specs.World.{atRoot, placed, worldBox, hitBox, reached}
-use Rattle.box_types.specs.declared.NodeFlags.{NodeFlags}
-use Rattle.box_types.specs.declared.LocalNode.{LocalNode}
-use Rattle.box_types.specs.Local.{hasAll, rectToAabb, emptyRect, noInset}
-use Rattle.forest.specs.Forest.{pre, above, path, depth}
+use Rattle.geometry.specs.Transform.{mapped, inverse}
+use Rattle.geometry_clips.specs.Clips.{inside}
+use Rattle.index_types.specs.declared.NodeId.{NodeId}
+use Rattle.index_types.specs.Boxes.{containsPoint, overlaps}
+use Rattle.tree_worlds.specs.declared.Placed.{Placed}
+use Rattle.tree_worlds.specs.World.{atRoot, placed, worldBox, hitBox, reached}
+use Rattle.tree_types.specs.declared.NodeFlags.{NodeFlags}
+use Rattle.tree_types.specs.declared.LocalNode.{LocalNode}
+use Rattle.tree_types.specs.Local.{hasAll, rectToAabb, emptyRect, noInset, withBounds, withSlop, withLevel}
+use Rattle.link_forest.specs.Forest.{above, path, depth}
 use Rattle.plan.specs.Lists.{keep, joined, upTo}
 use Rattle.plan.specs.Plan.{Plan, Entry, without, number, nodes, idOf}
 
@@ -134,15 +133,7 @@ listPoint p asked pt = map (idOf p) (keep (meetsPoint p asked pt) (inEntryOrder 
 
 -- what is left of a withheld node's record
 abbrev pub withheld : LocalNode → LocalNode
-withheld v =
-    record {
-      «local_bounds» = emptyRect;
-      «hit_slop» = noInset;
-      «local_transform» = v .«local_transform»;
-      «local_clip» = v .«local_clip»;
-      «z_index» = pos 0;
-      flags = v .flags;
-    }
+withheld v = withBounds emptyRect (withSlop noInset (withLevel (pos 0) v))
 
 unfoldable pub redactLocal : NodeFlags → LocalNode → LocalNode
 redactLocal asked v = cond (hasAll (v .flags) asked) v (withheld v)

@@ -1,24 +1,23 @@
 -- Every call, by its name and arguments, of lent room the length in numbers; its refusal on the plan and what it leaves of the plan.
 use Prim.Native.Nat.{ℕ, zero, suc}
-use mathlib.Core.Bool.{Bool, true, false, not, _&&_, cond}
-use mathlib.Core.List.{List, [], _∷_}
+use mathlib.Core.Bool.{Bool, not, cond}
 use lib.Dec.{ltb}
 use lib.IntN.{ℤ}
-use Rattle.geometry_parts.specs.declared.point.Point.{Point}
+use Rattle.geometry.specs.declared.point.Point.{Point}
 use Rattle.geometry.specs.declared.rect.Rect.{Rect}
-use Rattle.geometry_parts.specs.declared.insets.Insets.{Insets}
+use Rattle.geometry.specs.declared.insets.Insets.{Insets}
 use Rattle.geometry.specs.Rectangle.{rectEq, insetsEq, finiteRect, finiteInsets}
-use Rattle.transforms.specs.declared.affine.Affine.{Affine}
-use Rattle.transforms.specs.Transform.{affineEq, finiteAffine}
-use Rattle.clips.specs.declared.clip.Clip.{Clip}
-use Rattle.clips.specs.Clips.{constructed, clipEq, finiteClip}
-use Rattle.boxes.specs.declared.NodeId.{NodeId}
-use Rattle.box_types.specs.declared.NodeFlags.{NodeFlags}
-use Rattle.box_types.specs.declared.LocalNode.{LocalNode}
-use Rattle.box_types.specs.declared.OptionNodeId.{OptionNodeId}
-use Rattle.box_types.specs.declared.OptionNodeId.the-variants as node
-use Rattle.box_types.specs.Local.{known, finiteLocal}
-use Rattle.plan.specs.Plan.{Plan, Mark, live, parentLive, atOrBelow, full, needsCommit, newId, inserted, removed, moved, setUnless, withLocal, markAlone, markTransform, markClip}
+use Rattle.geometry.specs.declared.affine.Affine.{Affine}
+use Rattle.geometry.specs.Transform.{affineEq, finiteAffine}
+use Rattle.geometry_clips.specs.declared.clip.Clip.{Clip}
+use Rattle.geometry_clips.specs.Clips.{constructed, clipEq, finiteClip}
+use Rattle.index_types.specs.declared.NodeId.{NodeId}
+use Rattle.tree_types.specs.declared.NodeFlags.{NodeFlags}
+use Rattle.tree_types.specs.declared.LocalNode.{LocalNode}
+use Rattle.tree_types.specs.declared.OptionNodeId.{OptionNodeId}
+use Rattle.tree_types.specs.declared.OptionNodeId.the-variants as node
+use Rattle.tree_types.specs.Local.{known, finiteLocal, withTransform, withClip, withBounds, withSlop, withLevel, withFlags}
+use Rattle.plan.specs.Plan.{Plan, live, parentLive, atOrBelow, full, needsCommit, newId, inserted, removed, moved, setUnless, withLocal, markAlone, markTransform, markClip}
 use Rattle.plan.specs.Visits.{committed}
 
 pub data Request : Type 0 where
@@ -119,32 +118,6 @@ conditions p (request q asked len) = conditionsOfRequest p asked len
 
 unfoldable pub refusal : Plan → Call → ℕ
 refusal p c = lowest (conditions p c)
-
--- ---- one field of a local record
-
-abbrev pub withTransform : Affine → LocalNode → LocalNode
-withTransform t v =
-    record { «local_bounds» = v .«local_bounds»; «hit_slop» = v .«hit_slop»; «local_transform» = t; «local_clip» = v .«local_clip»; «z_index» = v .«z_index»; flags = v .flags }
-
-abbrev pub withClip : Clip → LocalNode → LocalNode
-withClip c v =
-    record { «local_bounds» = v .«local_bounds»; «hit_slop» = v .«hit_slop»; «local_transform» = v .«local_transform»; «local_clip» = c; «z_index» = v .«z_index»; flags = v .flags }
-
-abbrev pub withBounds : Rect → LocalNode → LocalNode
-withBounds r v =
-    record { «local_bounds» = r; «hit_slop» = v .«hit_slop»; «local_transform» = v .«local_transform»; «local_clip» = v .«local_clip»; «z_index» = v .«z_index»; flags = v .flags }
-
-abbrev pub withSlop : Insets → LocalNode → LocalNode
-withSlop s v =
-    record { «local_bounds» = v .«local_bounds»; «hit_slop» = s; «local_transform» = v .«local_transform»; «local_clip» = v .«local_clip»; «z_index» = v .«z_index»; flags = v .flags }
-
-abbrev pub withLevel : ℤ → LocalNode → LocalNode
-withLevel z v =
-    record { «local_bounds» = v .«local_bounds»; «hit_slop» = v .«hit_slop»; «local_transform» = v .«local_transform»; «local_clip» = v .«local_clip»; «z_index» = z; flags = v .flags }
-
-abbrev pub withFlags : NodeFlags → LocalNode → LocalNode
-withFlags f v =
-    record { «local_bounds» = v .«local_bounds»; «hit_slop» = v .«hit_slop»; «local_transform» = v .«local_transform»; «local_clip» = v .«local_clip»; «z_index» = v .«z_index»; flags = f }
 
 -- ---- what an accepted call leaves: readings and requests change nothing
 

@@ -5,10 +5,8 @@
 use Prim.Native.Nat.{ℕ, zero, suc}
 use mathlib.Core.Path.{_≡_}
 use mathlib.Core.List.{List, [], _∷_}
-use Rattle.geometry_parts.specs.declared.point.Point.{Point}
-use Rattle.geometry.specs.declared.rect.Rect.{Rect}
-use Rattle.boxes.specs.declared.NodeId.{NodeId}
-use Rattle.box_types.specs.declared.NodeFlags.{NodeFlags}
+use Rattle.index_types.specs.declared.NodeId.{NodeId}
+use Rattle.tree_types.specs.declared.NodeFlags.{NodeFlags}
 use Rattle.plan.specs.Plan.{Plan, empty}
 use Rattle.plan.specs.Afresh.{Tap, tap, listRect, listPoint, redact}
 use Rattle.plan.specs.Calls as call

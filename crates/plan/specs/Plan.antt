@@ -1,17 +1,17 @@
 -- Document 01's plain plan: "It keeps links (children in order), slots with generations, local records, live nodes' marks with what counts
 -- as changed, entry numbers, the entries marked removed in their order, and both free lists." Of a dead node's local record, mark and
 -- entry nothing is ever read; insert writes all three anew.
-use Prim.Native.Nat.{ℕ, zero, suc, _+_}
+use Prim.Native.Nat.{ℕ, suc}
 use mathlib.Core.Bool.{Bool, true, false, not, _&&_, _||_, cond}
 use mathlib.Core.List.{List, [], _∷_, _++_, reverse}
 use lib.Dec.{eqb, ltb, leb}
 use lib.ListN.{length}
-use Rattle.boxes.specs.declared.NodeId.{NodeId}
-use Rattle.box_types.specs.declared.LocalNode.{LocalNode}
-use Rattle.box_types.specs.declared.OptionNodeId.{OptionNodeId}
-use Rattle.box_types.specs.declared.OptionNodeId.the-variants as node
-use Rattle.box_types.specs.Local.{defaultLocal, stored}
-use Rattle.forest.specs.Forest.{Forest, none, leaf, pre, post, has, cat, under, remove, part}
+use Rattle.index_types.specs.declared.NodeId.{NodeId}
+use Rattle.tree_types.specs.declared.LocalNode.{LocalNode}
+use Rattle.tree_types.specs.declared.OptionNodeId.{OptionNodeId}
+use Rattle.tree_types.specs.declared.OptionNodeId.the-variants as node
+use Rattle.tree_types.specs.Local.{defaultLocal, stored}
+use Rattle.link_forest.specs.Forest.{Forest, none, leaf, pre, post, has, cat, under, remove, part}
 use Rattle.plan.specs.Lists.{put, any, joined}
 
 -- ---- what it keeps

@@ -1,11 +1,11 @@
 -- A commit on the plan: which nodes are walked, in which order, and what entry numbers they get.
-use Prim.Native.Nat.{ℕ, zero, suc}
-use mathlib.Core.Bool.{Bool, true, false, not, _&&_, _||_, cond}
+use Prim.Native.Nat.{ℕ}
+use mathlib.Core.Bool.{Bool, not, _&&_, _||_, cond}
 use mathlib.Core.List.{List, [], _∷_, _++_, reverse}
 use lib.Dec.{eqb, ltb}
-use Rattle.forest.specs.Forest.{pre, above, part}
+use Rattle.link_forest.specs.Forest.{pre, above, part}
 use Rattle.plan.specs.Lists.{put, keep, any, joined, sorted}
-use Rattle.plan.specs.Plan.{Plan, Mark, Entry, without, number, Entries, nodes, noMark, withEntry, slotFrom, freeAfter, usedAfter}
+use Rattle.plan.specs.Plan.{Plan, Entry, without, number, Entries, nodes, noMark, slotFrom, freeAfter, usedAfter}
 
 -- a marked node whose transform or clip changed
 abbrev pub countsAsChanged : Plan → ℕ → Bool

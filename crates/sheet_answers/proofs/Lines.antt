@@ -10,11 +10,11 @@ use lib.IntN.{ℤ}
 use lib.ListN.{length, getD, drop, length-append}
 use lib.Seq.{sets-eq}
 use Rattle.plan.specs.Afresh.{Tap}
-use Rattle.plan_sheet.specs.declared.Parsed.{Parsed}
-use Rattle.plan_sheet.specs.Sheet.{Sheet, Read, refused, sheet, readSheet, tapOf, tapInRange, tapRule}
-use Rattle.plan_sheet.specs.declared.Refusal.{Refusal}
-use Rattle.plan_sheet.specs.declared.Answer.the-variants as answer
-use Rattle.plan_sheet.specs.Told.{rowsOf, rowAt, told, numberOf}
+use Rattle.sheet_format.specs.declared.Parsed.{Parsed}
+use Rattle.sheet_format.specs.Sheet.{tapWidth, mostTaps, Sheet, Read, refused, sheet, readSheet, tapOf, tapInRange, tapRule}
+use Rattle.sheet_format.specs.declared.Refusal.{Refusal}
+use Rattle.sheet_format.specs.declared.Answer.the-variants as answer
+use Rattle.sheet_format.specs.Told.{rowsOf, rowAt, sheetOf, told, numberOf}
 use Rattle.sheet_calls.specs.Answers.{planOf, tapOn, askedOf, pointOf, placeHit, depthHit, decimal, lineOf, tapLines, sheetText, readText, bytes, output}
 use Rattle.sheet_calls.specs.Good.{Good, Passes}
 use Rattle.sheet_calls.proofs.Finite.{tap-ranges, asked-known}
@@ -24,11 +24,11 @@ use Rattle.sheet_calls.proofs.Bounds.{tap-short, refusal-small}
 use Rattle.sheet_laws.specs.Built.{treeOf}
 use Rattle.sheet_laws.proofs.Tree.{tap-accepted, tap-found}
 use Rattle.sheet_laws.proofs.Tables.{rows-many, rows-at}
-use Rattle.sheet_text.specs.Text.{Stored}
-use Rattle.sheet_text.proofs.Digits.{short}
-use Rattle.tap_lines.specs.Lines.{found, tapText, AllReady}
-use Rattle.tap_lines.proofs.Lines.{short-mark, short-line}
-use Rattle.sheet_answers.specs.Text.{sheetOf, FromBytes, writtenIf, writtenNumber, roomIf, roomy}
+use Rattle.sheet_answers.specs.text.Text.{Stored}
+use Rattle.sheet_answers.proofs.text.Digits.{short}
+use Rattle.sheet_answers.specs.tap_lines.Lines.{found, tapText, AllReady}
+use Rattle.sheet_answers.proofs.tap_lines.Lines.{short-mark, short-line}
+use Rattle.sheet_answers.specs.Answers.{FromBytes, writtenIf, writtenNumber, roomIf, roomy}
 use Rattle.sheet_answers.specs.declared.Written.{Written}
 use Rattle.sheet_answers.specs.declared.Written.the-variants as written
 
@@ -45,14 +45,14 @@ text-same s k before (zs ∷ rows) P =
     ap (λ (h : Tap). lineOf (k ∷ placeHit h ∷ depthHit h ∷ []) ++ tapText (treeOf s) (suc k) rows) (found-same s zs (P .0 .ranged))
     ∙ ap (λ (l : List ℕ). lineOf (k ∷ placeHit (tapOn (planOf s) (tapOf zs)) ∷ depthHit (tapOn (planOf s) (tapOf zs)) ∷ []) ++ l) (text-same s (suc k) (before ++ zs ∷ []) rows (P .1))
 
-pub taps-ready : (s : Sheet) → Good s → (taps : List ℤ) (n : ℕ) → s .taps ≡ rowsOf 3 n taps → AllReady (treeOf s) taps n
+pub taps-ready : (s : Sheet) → Good s → (taps : List ℤ) (n : ℕ) → s .taps ≡ rowsOf tapWidth n taps → AllReady (treeOf s) taps n
 taps-ready s g taps n e i h =
-    let p = tapOf (rowAt 3 i taps) in
-    let f = passes-at tapRule [] (s .taps) (g .taps) i (omega (arith, ap length e, rows-many 3 n taps)) in
-    let row : getD (s .taps) i [] ≡ rowAt 3 i taps = ap (λ (l : List (List ℤ)). getD l i []) e ∙ rows-at 3 n taps i h in
+    let p = tapOf (rowAt tapWidth i taps) in
+    let f = passes-at tapRule [] (s .taps) (g .taps) i (omega (arith, ap length e, rows-many tapWidth n taps)) in
+    let row : getD (s .taps) i [] ≡ rowAt tapWidth i taps = ap (λ (l : List (List ℤ)). getD l i []) e ∙ rows-at tapWidth n taps i h in
     let r : tapInRange p ≡ true = subst (λ (z : List ℤ). tapInRange (tapOf z) ≡ true) row (f .ranged) in
     let b = tap-short s g p in
-    let q = found-same s (rowAt 3 i taps) r in
+    let q = found-same s (rowAt tapWidth i taps) r in
     record {
       ranged = r;
       verdict = tap-accepted s (askedOf p) (asked-known p (tap-ranges p r));
@@ -61,15 +61,15 @@ taps-ready s g taps n e i h =
     }
 
 -- the whole text of a good sheet
-pub sheet-text : (p : Parsed) → Good (sheetOf p) → lineOf (p .tapped ∷ []) ++ tapText (treeOf (sheetOf p)) 1 (rowsOf 3 (p .tapped) (p .taps)) ≡ sheetText (sheetOf p)
+pub sheet-text : (p : Parsed) → Good (sheetOf p) → lineOf (p .tapped ∷ []) ++ tapText (treeOf (sheetOf p)) 1 (rowsOf tapWidth (p .tapped) (p .taps)) ≡ sheetText (sheetOf p)
 unfolding sheetText
 sheet-text p g =
-    let rows = rowsOf 3 (p .tapped) (p .taps) in
-    ap (λ (n : ℕ). lineOf (n ∷ []) ++ tapText (treeOf (sheetOf p)) 1 rows) (sym (rows-many 3 (p .tapped) (p .taps)))
+    let rows = rowsOf tapWidth (p .tapped) (p .taps) in
+    ap (λ (n : ℕ). lineOf (n ∷ []) ++ tapText (treeOf (sheetOf p)) 1 rows) (sym (rows-many tapWidth (p .tapped) (p .taps)))
     ∙ ap (λ (l : List ℕ). lineOf (length rows ∷ []) ++ l) (text-same (sheetOf p) 1 [] rows (g .taps))
 
-pub few-taps : (p : Parsed) → Good (sheetOf p) → p .tapped ≤ 1000
-few-taps p g = omega (arith, g .few-taps, rows-many 3 (p .tapped) (p .taps))
+pub few-taps : (p : Parsed) → Good (sheetOf p) → p .tapped ≤ mostTaps
+few-taps p g = omega (arith, g .few-taps, rows-many tapWidth (p .tapped) (p .taps))
 
 pub short-count : (n : ℕ) → n < 10000 → length (lineOf (n ∷ [])) ≤ 5
 unfolding lineOf

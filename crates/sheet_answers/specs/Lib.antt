@@ -1,1 +1,4 @@
-pub mod Text
+pub mod text
+pub mod taps
+pub mod tap_lines
+pub mod Answers

@@ -1,14 +1,24 @@
 // The text that a sheet's bytes are answered with, in lent room.
+
+// The line of a refused sheet.
+pub mod refusal_lines;
+// The lines of a sheet's taps.
+pub mod tap_lines;
+// What a tap hits on the sheet's tree: the place and its depth.
+pub mod taps;
+// Numbers as text, and lines of one, two and three.
+pub mod text;
+
 ghost use mathlib.Core.Path.{_≡_};
 ghost use Prim.Native.Nat.{_≤_};
 ghost use lib.ListN.{length};
-ghost use Rattle.plan_sheet.specs.Told.{told};
+ghost use Rattle.sheet_format.specs.Told.{sheetOf, told};
 ghost use Rattle.sheet_calls.specs.Answers as text;
 ghost use Rattle.sheet_calls.specs.Good.{Good};
-ghost use Rattle.sheet_text.specs.Text.{Stored};
-ghost use Rattle.sheet_answers.specs.Text as spec;
-use plan_sheet::Answer;
-use plan_sheet::Parsed;
+ghost use Rattle.sheet_answers.specs.text.Text.{Stored};
+ghost use Rattle.sheet_answers.specs.Answers as spec;
+use sheet_format::Answer;
+use sheet_format::Parsed;
 
 // How many bytes stand in front of the room, or document 01's 8.
 pub enum Written {
@@ -18,14 +28,14 @@ pub enum Written {
 
 // The tap count, then the taps.
 fn put_sheet(p: Parsed, room: &mut [u8]) -> usize
-    requires { ⌜ Good (spec.sheetOf p) × (16384 ≤ length (now room)) ⌝ }
-    ensures { λ r. ⌜ Stored (now (room .entry)) (now (room .exit)) 0 r (text.sheetText (spec.sheetOf p)) ⌝ }
+    requires { ⌜ Good (sheetOf p) × (16384 ≤ length (now room)) ⌝ }
+    ensures { λ r. ⌜ Stored (now (room .entry)) (now (room .exit)) 0 r (text.sheetText (sheetOf p)) ⌝ }
 {
     let places = p.places;
     let clips = p.clips;
     let taps = p.taps;
     let t = sheet_tree::build(&places, p.placed, &clips, p.clipped);
-    let first = sheet_text::put_line(room, 0, p.tapped);
+    let first = text::put_line(room, 0, p.tapped);
     tap_lines::put_taps(t, &taps, p.tapped, first, room)
 }
 

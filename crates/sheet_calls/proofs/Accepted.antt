@@ -4,14 +4,14 @@ use mathlib.Core.Path.{_≡_, refl, sym, ap, _∙_, subst}
 use mathlib.Core.Bool.{Bool, true, false, cond}
 use mathlib.Core.List.{List, [], _∷_, _++_, append-assoc, append-nil}
 use native.Mathlib.Omega.{arith}
-use lib.Dec.{ltb, eqb, leb}
+use lib.Dec.{ltb, eqb}
 use lib.IntN.{ℤ, pos, negsuc, natAbs}
 use lib.Signed.{leZ}
-use lib.ListN.{length, length-append}
+use lib.ListN.{length}
 use borrow.Author.Tests.{eqb-true, leb-true}
 use Rattle.numbers.proofs.Bools.{clash, and-left, and-right}
 use Rattle.sheet_lines.specs.Lines.{Numbers, malformed, numbers, fields, ofWidth, numbersOf, wordsOf, Cut, without, line, cut}
-use Rattle.plan_sheet.specs.Sheet.{Rule, Judged, bad, good, judgeNumbers, judge, Section, stopped, ended, onJudged, onLine, section, thenSection, countRule, countOn, counted, column, placeRule, clipRule, tapRule, Sheet, Read, refused, sheet, thenRead, atEnd, readSheet}
+use Rattle.sheet_format.specs.Sheet.{mostPlaces, mostTaps, Rule, Judged, bad, good, judgeNumbers, judge, Section, stopped, ended, onJudged, onLine, section, thenSection, countRule, countOn, counted, column, placeRule, clipRule, tapRule, Sheet, refused, sheet, thenRead, atEnd, readSheet}
 use Rattle.sheet_calls.specs.Good.{Fair, Passes, Good}
 
 -- ---- constructors apart
@@ -148,35 +148,35 @@ good-sheet b s e = short (ltb 65536 (length b)) e
     Lines : Type 0
     Lines = List (List ℤ)
 
-    last : (places clips taps : Lines) (n : ℕ) (rest : List ℕ) → Counted placeRule 256 places → Counted (clipRule (length places)) (length places) clips → Counted tapRule 1000 taps
+    last : (places clips taps : Lines) (n : ℕ) (rest : List ℕ) → Counted placeRule mostPlaces places → Counted (clipRule (length places)) (length places) clips → Counted tapRule mostTaps taps
         → atEnd n (record { places = places; clips = clips; taps = taps }) rest ≡ sheet s → Good s
     last places clips taps n rest p c t q =
         subst Good (at-end n (record { places = places; clips = clips; taps = taps }) s rest q)
         (record { few-places = p .few; few-clips = c .few; few-taps = t .few; places = p .passes; clips = c .passes; taps = t .passes })
 
-    third : (places clips : Lines) (s₂ : List ℕ) → Counted placeRule 256 places → Counted (clipRule (length places)) (length places) clips → (k : Section)
-        → let m = length places + length clips in counted tapRule 1000 (3 + m) s₂ ≡ k
+    third : (places clips : Lines) (s₂ : List ℕ) → Counted placeRule mostPlaces places → Counted (clipRule (length places)) (length places) clips → (k : Section)
+        → let m = length places + length clips in counted tapRule mostTaps (3 + m) s₂ ≡ k
         → thenRead k (λ taps s₃. atEnd (4 + m + length taps) (record { places = places; clips = clips; taps = taps }) s₃) ≡ sheet s → Good s
     third places clips s₂ p c (stopped r n) w q = never-sheet q
     third places clips s₂ p c (ended taps s₃) w q =
         let m = length places + length clips in
-        last places clips taps (4 + m + length taps) s₃ p c (counted-rows tapRule 1000 (3 + m) s₂ taps s₃ w) q
+        last places clips taps (4 + m + length taps) s₃ p c (counted-rows tapRule mostTaps (3 + m) s₂ taps s₃ w) q
 
-    second : (places : Lines) (s₁ : List ℕ) → Counted placeRule 256 places → (k : Section)
+    second : (places : Lines) (s₁ : List ℕ) → Counted placeRule mostPlaces places → (k : Section)
         → let n = length places in counted (clipRule n) n (2 + n) s₁ ≡ k
-        → thenRead k (λ clips s₂. let m = n + length clips in thenRead (counted tapRule 1000 (3 + m) s₂) (λ taps s₃. atEnd (4 + m + length taps) (record { places = places; clips = clips; taps = taps }) s₃)) ≡ sheet s → Good s
+        → thenRead k (λ clips s₂. let m = n + length clips in thenRead (counted tapRule mostTaps (3 + m) s₂) (λ taps s₃. atEnd (4 + m + length taps) (record { places = places; clips = clips; taps = taps }) s₃)) ≡ sheet s → Good s
     second places s₁ p (stopped r n) w q = never-sheet q
     second places s₁ p (ended clips s₂) w q =
         let n = length places in
-        third places clips s₂ p (counted-rows (clipRule n) n (2 + n) s₁ clips s₂ w) (counted tapRule 1000 (3 + (n + length clips)) s₂) refl q
+        third places clips s₂ p (counted-rows (clipRule n) n (2 + n) s₁ clips s₂ w) (counted tapRule mostTaps (3 + (n + length clips)) s₂) refl q
 
-    first : (k : Section) → counted placeRule 256 1 b ≡ k
-        → thenRead k (λ places s₁. let n = length places in thenRead (counted (clipRule n) n (2 + n) s₁) (λ clips s₂. let m = n + length clips in thenRead (counted tapRule 1000 (3 + m) s₂) (λ taps s₃. atEnd (4 + m + length taps) (record { places = places; clips = clips; taps = taps }) s₃))) ≡ sheet s → Good s
+    first : (k : Section) → counted placeRule mostPlaces 1 b ≡ k
+        → thenRead k (λ places s₁. let n = length places in thenRead (counted (clipRule n) n (2 + n) s₁) (λ clips s₂. let m = n + length clips in thenRead (counted tapRule mostTaps (3 + m) s₂) (λ taps s₃. atEnd (4 + m + length taps) (record { places = places; clips = clips; taps = taps }) s₃))) ≡ sheet s → Good s
     first (stopped r n) w q = never-sheet q
     first (ended places s₁) w q =
         let n = length places in
-        second places s₁ (counted-rows placeRule 256 1 b places s₁ w) (counted (clipRule n) n (2 + n) s₁) refl q
+        second places s₁ (counted-rows placeRule mostPlaces 1 b places s₁ w) (counted (clipRule n) n (2 + n) s₁) refl q
 
-    short : (k : Bool) → cond k (refused 20 0) (thenRead (counted placeRule 256 1 b) (λ places s₁. let n = length places in thenRead (counted (clipRule n) n (2 + n) s₁) (λ clips s₂. let m = n + length clips in thenRead (counted tapRule 1000 (3 + m) s₂) (λ taps s₃. atEnd (4 + m + length taps) (record { places = places; clips = clips; taps = taps }) s₃)))) ≡ sheet s → Good s
+    short : (k : Bool) → cond k (refused 20 0) (thenRead (counted placeRule mostPlaces 1 b) (λ places s₁. let n = length places in thenRead (counted (clipRule n) n (2 + n) s₁) (λ clips s₂. let m = n + length clips in thenRead (counted tapRule mostTaps (3 + m) s₂) (λ taps s₃. atEnd (4 + m + length taps) (record { places = places; clips = clips; taps = taps }) s₃)))) ≡ sheet s → Good s
     short true q = never-sheet q
-    short false q = first (counted placeRule 256 1 b) refl q
+    short false q = first (counted placeRule mostPlaces 1 b) refl q

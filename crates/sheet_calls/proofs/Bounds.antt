@@ -7,10 +7,10 @@ use native.Mathlib.Omega.{arith}
 use lib.IntN.{ℤ}
 use lib.ListN.{length, getD, take, length-map, length-reverse}
 use lib.Seq.{take-length}
-use Rattle.geometry_parts.specs.declared.point.Point.{Point}
-use Rattle.box_types.specs.declared.NodeFlags.{NodeFlags}
-use Rattle.forest.specs.Forest.{Forest, pre, has, above, path, depth}
-use Rattle.forest.proofs.Laws.{place, place-there, slot-has, depth-small}
+use Rattle.geometry.specs.declared.point.Point.{Point}
+use Rattle.tree_types.specs.declared.NodeFlags.{NodeFlags}
+use Rattle.link_forest.specs.Forest.{pre, has, above, path, depth}
+use Rattle.link_forest.proofs.Laws.{place-there, slot-has, depth-small}
 use Rattle.plan.specs.Lists.{keep}
 use Rattle.plan.specs.Plan.{Plan, empty, idOf}
 use Rattle.plan.specs.Visits.{committed}
@@ -18,10 +18,10 @@ use Rattle.plan.specs.Afresh as afresh
 use Rattle.plan.specs.Afresh.{Hit, better, largest, larger, candidate, tap, redact}
 use Rattle.plan.specs.Calls.{step}
 use Rattle.plan.specs.Demand.{run}
-use Rattle.plan_sheet.specs.declared.TapLine.{TapLine}
+use Rattle.sheet_format.specs.declared.TapLine.{TapLine}
 use lib.Dec.{ltb}
 use Rattle.sheet_lines.specs.Lines.{Numbers, malformed, numbers, fields, Cut, without, line, cut}
-use Rattle.plan_sheet.specs.Sheet.{Rule, Judged, bad, good, judgeNumbers, judge, Section, stopped, ended, onJudged, onLine, section, thenSection, countRule, countOn, counted, placeRule, clipRule, tapRule, Sheet, Read, refused, sheet, thenRead, atEnd, readSheet}
+use Rattle.sheet_format.specs.Sheet.{mostPlaces, mostTaps, Rule, Judged, bad, good, judgeNumbers, judge, Section, stopped, ended, onJudged, onLine, section, thenSection, countRule, countOn, counted, placeRule, clipRule, tapRule, Sheet, refused, sheet, thenRead, atEnd, readSheet}
 use Rattle.sheet_calls.specs.Calls.{insertsFrom}
 use Rattle.sheet_calls.specs.Answers.{planOf, tapOn, askedOf, pointOf, placeHit, depthHit}
 use Rattle.sheet_calls.specs.Good.{Good}
@@ -172,33 +172,33 @@ refusal-small b r at e = short (ltb 65536 (length b)) e
     last n whole [] h q = sheet-apart q
     last n whole (x ∷ rest) h q = stop-small 24 n r at q (record { number = omega arith; line = h })
 
-    third : (places clips : Lines) (s₂ : List ℕ) → length places ≤ 256 → length clips ≤ 256 → (k : Section)
-        → let m = length places + length clips in counted tapRule 1000 (3 + m) s₂ ≡ k
+    third : (places clips : Lines) (s₂ : List ℕ) → length places ≤ mostPlaces → length clips ≤ mostPlaces → (k : Section)
+        → let m = length places + length clips in counted tapRule mostTaps (3 + m) s₂ ≡ k
         → thenRead k (λ taps s₃. atEnd (4 + m + length taps) (record { places = places; clips = clips; taps = taps }) s₃) ≡ refused r at → Small r at 9999
     third places clips s₂ p c (stopped a d) w q =
         let m = length places + length clips in
-        stop-small a d r at q (grow a d (3 + m + 1000) 9999 (omega arith) (counted-small tapRule 1000 (3 + m) s₂ a d w))
+        stop-small a d r at q (grow a d (3 + m + mostTaps) 9999 (omega arith) (counted-small tapRule mostTaps (3 + m) s₂ a d w))
     third places clips s₂ p c (ended taps s₃) w q =
         let m = length places + length clips in
-        last (4 + m + length taps) (record { places = places; clips = clips; taps = taps }) s₃ (omega (arith, counted-rows tapRule 1000 (3 + m) s₂ taps s₃ w .few)) q
+        last (4 + m + length taps) (record { places = places; clips = clips; taps = taps }) s₃ (omega (arith, counted-rows tapRule mostTaps (3 + m) s₂ taps s₃ w .few)) q
 
-    second : (places : Lines) (s₁ : List ℕ) → length places ≤ 256 → (k : Section)
+    second : (places : Lines) (s₁ : List ℕ) → length places ≤ mostPlaces → (k : Section)
         → let n = length places in counted (clipRule n) n (2 + n) s₁ ≡ k
-        → thenRead k (λ clips s₂. let m = n + length clips in thenRead (counted tapRule 1000 (3 + m) s₂) (λ taps s₃. atEnd (4 + m + length taps) (record { places = places; clips = clips; taps = taps }) s₃)) ≡ refused r at → Small r at 9999
+        → thenRead k (λ clips s₂. let m = n + length clips in thenRead (counted tapRule mostTaps (3 + m) s₂) (λ taps s₃. atEnd (4 + m + length taps) (record { places = places; clips = clips; taps = taps }) s₃)) ≡ refused r at → Small r at 9999
     second places s₁ p (stopped a d) w q =
         let n = length places in
         stop-small a d r at q (grow a d (2 + n + n) 9999 (omega arith) (counted-small (clipRule n) n (2 + n) s₁ a d w))
     second places s₁ p (ended clips s₂) w q =
         let n = length places in
-        third places clips s₂ p (omega (arith, counted-rows (clipRule n) n (2 + n) s₁ clips s₂ w .few)) (counted tapRule 1000 (3 + (n + length clips)) s₂) refl q
+        third places clips s₂ p (omega (arith, counted-rows (clipRule n) n (2 + n) s₁ clips s₂ w .few)) (counted tapRule mostTaps (3 + (n + length clips)) s₂) refl q
 
-    first : (k : Section) → counted placeRule 256 1 b ≡ k
-        → thenRead k (λ places s₁. let n = length places in thenRead (counted (clipRule n) n (2 + n) s₁) (λ clips s₂. let m = n + length clips in thenRead (counted tapRule 1000 (3 + m) s₂) (λ taps s₃. atEnd (4 + m + length taps) (record { places = places; clips = clips; taps = taps }) s₃))) ≡ refused r at → Small r at 9999
-    first (stopped a d) w q = stop-small a d r at q (grow a d 257 9999 (omega arith) (counted-small placeRule 256 1 b a d w))
+    first : (k : Section) → counted placeRule mostPlaces 1 b ≡ k
+        → thenRead k (λ places s₁. let n = length places in thenRead (counted (clipRule n) n (2 + n) s₁) (λ clips s₂. let m = n + length clips in thenRead (counted tapRule mostTaps (3 + m) s₂) (λ taps s₃. atEnd (4 + m + length taps) (record { places = places; clips = clips; taps = taps }) s₃))) ≡ refused r at → Small r at 9999
+    first (stopped a d) w q = stop-small a d r at q (grow a d (1 + mostPlaces) 9999 (omega arith) (counted-small placeRule mostPlaces 1 b a d w))
     first (ended places s₁) w q =
         let n = length places in
-        second places s₁ (counted-rows placeRule 256 1 b places s₁ w .few) (counted (clipRule n) n (2 + n) s₁) refl q
+        second places s₁ (counted-rows placeRule mostPlaces 1 b places s₁ w .few) (counted (clipRule n) n (2 + n) s₁) refl q
 
-    short : (k : Bool) → cond k (refused 20 0) (thenRead (counted placeRule 256 1 b) (λ places s₁. let n = length places in thenRead (counted (clipRule n) n (2 + n) s₁) (λ clips s₂. let m = n + length clips in thenRead (counted tapRule 1000 (3 + m) s₂) (λ taps s₃. atEnd (4 + m + length taps) (record { places = places; clips = clips; taps = taps }) s₃)))) ≡ refused r at → Small r at 9999
+    short : (k : Bool) → cond k (refused 20 0) (thenRead (counted placeRule mostPlaces 1 b) (λ places s₁. let n = length places in thenRead (counted (clipRule n) n (2 + n) s₁) (λ clips s₂. let m = n + length clips in thenRead (counted tapRule mostTaps (3 + m) s₂) (λ taps s₃. atEnd (4 + m + length taps) (record { places = places; clips = clips; taps = taps }) s₃)))) ≡ refused r at → Small r at 9999
     short true q = stop-small 20 0 r at q (record { number = omega arith; line = omega arith })
-    short false q = first (counted placeRule 256 1 b) refl q
+    short false q = first (counted placeRule mostPlaces 1 b) refl q

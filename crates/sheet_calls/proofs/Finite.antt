@@ -1,29 +1,28 @@
 -- Every local record of a good sheet passes 5 and 6: its numbers are finite and its flags known.
 use Prim.Native.Nat.{ℕ, zero, suc, _≤_, _%_}
-use mathlib.Core.Path.{_≡_, refl, sym, ap, _∙_}
+use mathlib.Core.Path.{_≡_, refl}
 use mathlib.Core.Bool.{Bool, true, false, _&&_, cond}
 use mathlib.Core.List.{List, [], _∷_, _++_}
 use native.Mathlib.Omega.{arith}
 use lib.Dec.{ltb}
 use lib.IntN.{ℤ, pos, negsuc, negℤ, natAbs}
 use lib.Signed.{mag}
-use lib.Ieee.{binary64, ofInt, ofBits, ofFields, odd}
-use lib.Ieee.Scale.{finite}
+use lib.Ieee.{ofBits, ofFields, odd}
 use borrow.Author.Tests.{lt-ltb}
 use Rattle.numbers.proofs.Bools.{and-left, and-right}
 use Rattle.geometry.specs.Rectangle.{finiteRect, finiteInsets}
-use Rattle.transforms.specs.Transform.{finiteAffine}
-use Rattle.clips.specs.declared.clip.Clip.{Clip}
-use Rattle.clips.specs.declared.clip.Clip.the-variants as clip
-use Rattle.clips.specs.Clips.{clipRect, clipRadii, finiteClipRect, finiteClip}
-use Rattle.box_types.specs.Local.{known, finiteLocal}
-use Rattle.plan_sheet.specs.declared.PlaceLine.{PlaceLine}
-use Rattle.plan_sheet.specs.declared.ClipLine.{ClipLine}
-use Rattle.plan_sheet.specs.declared.TapLine.{TapLine}
-use Rattle.plan_sheet.specs.Sheet.{within, coordinate, flagByte, placeInRange, clipInRange, tapInRange, clipOf, placeOf, clipRule}
-use Rattle.sheet_calls.specs.Calls.{real, equal, Linear, upright, mirrored, turned, turns, orientation, shifted, clipOn, clipFor, localOf}
+use Rattle.geometry.specs.Transform.{finiteAffine}
+use Rattle.geometry_clips.specs.declared.clip.Clip.{Clip}
+use Rattle.geometry_clips.specs.declared.clip.Clip.the-variants as clip
+use Rattle.geometry_clips.specs.Clips.{clipRect, clipRadii, finiteClipRect, finiteClip}
+use Rattle.tree_types.specs.Local.{known, finiteLocal}
+use Rattle.sheet_format.specs.declared.PlaceLine.{PlaceLine}
+use Rattle.sheet_format.specs.declared.ClipLine.{ClipLine}
+use Rattle.sheet_format.specs.declared.TapLine.{TapLine}
+use Rattle.sheet_format.specs.Sheet.{within, equal, coordinate, flagByte, placeInRange, clipInRange, tapInRange, clipOf, clipRule}
+use Rattle.sheet_calls.specs.Calls.{real, Linear, upright, mirrored, turns, orientation, clipOn, clipFor, localOf}
 use Rattle.sheet_calls.specs.Answers.{askedOf}
-use Rattle.sheet_calls.specs.Good.{Fair, Passes, Small}
+use Rattle.sheet_calls.specs.Good.{Passes, Small}
 use Rattle.sheet_calls.proofs.Whole.{coordinate-near, from-zero, small-finite, not-negative, level-fits}
 
 -- ---- a row's ranges, by name

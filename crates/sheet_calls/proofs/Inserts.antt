@@ -1,33 +1,33 @@
 -- On the plain plan every call of a good sheet is accepted, and place k is the node (k − 1, 1).
 use Prim.Native.Nat.{ℕ, zero, suc, _+_, _≤_, _<_}
 use mathlib.Core.Path.{_≡_, refl, sym, ap, ap₂, _∙_, subst}
-use mathlib.Core.Bool.{Bool, true, false, not, _&&_, cond}
+use mathlib.Core.Bool.{Bool, true, false, _&&_, cond}
 use mathlib.Core.List.{List, [], _∷_, _++_, append-nil, append-assoc}
 use native.Mathlib.Decide.{ℕ-discrete}
 use native.Mathlib.Omega.{arith}
-use lib.Dec.{eqb, ltb, leb}
+use lib.Dec.{eqb}
 use lib.IntN.{ℤ, pos, negsuc, natAbs}
 use lib.Signed.{leZ}
 use lib.ListN.{length, take, drop, getD, length-append, take-append-drop}
 use lib.Seq.{length-take-le, take-suc, take-length}
-use borrow.Author.Tests.{eq-eqb, ne-eqb, lt-leb, lt-ltb, leb-true}
-use Rattle.numbers.proofs.Bools.{clash, and-left, and-right}
-use Rattle.box_types.specs.declared.NodeFlags.{NodeFlags}
-use Rattle.box_types.specs.declared.LocalNode.{LocalNode}
-use Rattle.box_types.specs.declared.OptionNodeId.the-variants as node
-use Rattle.box_types.specs.Local.{known, finiteLocal}
-use Rattle.forest.specs.Forest.{Forest, none, leaf, pre, has, either, cat, under}
-use Rattle.forest.proofs.Counting.{has-cat, has-under}
-use Rattle.forest.proofs.Whole.{pre-cat}
-use Rattle.forest.proofs.Laws.{end, pre-under}
+use borrow.Author.Tests.{eq-eqb, ne-eqb, lt-leb, leb-true}
+use Rattle.numbers.proofs.Bools.{clash, and-right}
+use Rattle.tree_types.specs.declared.NodeFlags.{NodeFlags}
+use Rattle.tree_types.specs.declared.LocalNode.{LocalNode}
+use Rattle.tree_types.specs.declared.OptionNodeId.the-variants as node
+use Rattle.tree_types.specs.Local.{known, finiteLocal}
+use Rattle.link_forest.specs.Forest.{Forest, leaf, pre, has, either}
+use Rattle.link_forest.proofs.Counting.{has-cat, has-under}
+use Rattle.link_forest.proofs.Whole.{pre-cat}
+use Rattle.link_forest.proofs.Laws.{end, pre-under}
 use Rattle.plan.specs.Plan.{Plan, empty, nodes, full, parentLive, newId, newSlot, inserted, onto, needsCommit}
 use Rattle.plan.specs.Lists.{any}
 use Rattle.plan.specs.Visits.{committed}
 use Rattle.plan.specs.Calls as call
 use Rattle.plan.specs.Calls.{Call, Outcome, lowest, refusal, accepted, step, outcome}
 use Rattle.plan.specs.Demand.{run, outcomes}
-use Rattle.plan_sheet.specs.declared.PlaceLine.{PlaceLine}
-use Rattle.plan_sheet.specs.Sheet.{Sheet, Rule, placeOf, placeRule, parentEarlier, placeInRange, clipRule}
+use Rattle.sheet_format.specs.declared.PlaceLine.{PlaceLine}
+use Rattle.sheet_format.specs.Sheet.{Sheet, Rule, placeOf, placeRule, parentEarlier, clipRule}
 use Rattle.sheet_calls.specs.Calls.{localOf, clipFor, parentAt, insertOf, insertsFrom, callsOf}
 use Rattle.sheet_calls.specs.Answers.{planOf}
 use Rattle.sheet_calls.specs.Good.{Fair, Passes, Good}

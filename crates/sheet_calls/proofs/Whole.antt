@@ -1,7 +1,7 @@
 -- A whole number of a magnitude up to 2^53 becomes an f64 exactly: finite, with its sign (0 is +0), and of its size.
-use Prim.Native.Nat.{ℕ, zero, suc, _+_, _*_, _^_, _≤_, _<_}
-use mathlib.Core.Path.{_≡_, refl, sym, ap, _∙_, subst}
-use mathlib.Core.Bool.{Bool, true, false, _&&_}
+use Prim.Native.Nat.{ℕ, zero, suc, _*_, _^_, _≤_, _<_}
+use mathlib.Core.Path.{_≡_, refl, sym, subst}
+use mathlib.Core.Bool.{Bool, true, false}
 use native.Mathlib.Nat.{lt-of-lt-of-le, mul-one}
 use native.Mathlib.Decide.{ℕ-discrete}
 use native.Mathlib.Omega.{arith}
@@ -14,7 +14,7 @@ use lib.Ieee.Exact.{HasValue, round-exact}
 use lib.Ieee.Scale.{finite}
 use borrow.Author.Tests.{leb-true}
 use Rattle.numbers.proofs.Bools.{clash, and-left, and-right}
-use Rattle.plan_sheet.specs.Sheet.{within, coordinate}
+use Rattle.sheet_format.specs.Sheet.{within, coordinate}
 
 below : (s : Bool) (n : ℕ) → n < 2 ^ 53 → HasValue (round binary64 s n 1) s n 1
 below s n h =

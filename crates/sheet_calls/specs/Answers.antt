@@ -1,23 +1,23 @@
 -- What a sheet's taps answer, on the plain plan of its calls, redacted; and the text that the program prints: "the tap count, then per tap: tap
 -- number, place hit or 0, depth or 0. A refused sheet prints one line only: `refused`, number and line".
 use Prim.Native.Nat.{ℕ, zero, suc, _+_, _/_, _%_}
-use Prim.Native.Char.{Char, code}
+use Prim.Native.Char.{code}
 use Prim.Native.String.{String, [] as end, _∷_ as _then_}
-use mathlib.Core.Bool.{Bool, true, false, cond}
+use mathlib.Core.Bool.{cond}
 use mathlib.Core.List.{List, [], _∷_, _++_}
 use lib.Dec.{ltb}
 use lib.IntN.{ℤ, natAbs}
 use lib.ListN.{length}
-use Rattle.geometry_parts.specs.declared.point.Point.{Point}
-use Rattle.box_types.specs.declared.NodeFlags.{NodeFlags}
-use Rattle.box_types.specs.Local.{flags}
+use Rattle.geometry.specs.declared.point.Point.{Point}
+use Rattle.tree_types.specs.declared.NodeFlags.{NodeFlags}
+use Rattle.tree_types.specs.Local.{flags}
 use Rattle.plan.specs.Plan.{Plan, empty}
 use Rattle.plan.specs.Calls as call
 use Rattle.plan.specs.Afresh as afresh
 use Rattle.plan.specs.Afresh.{Tap, tap, redact}
 use Rattle.plan.specs.Demand.{run}
-use Rattle.plan_sheet.specs.declared.TapLine.{TapLine}
-use Rattle.plan_sheet.specs.Sheet.{Sheet, Read, refused, sheet, tapOf, readSheet}
+use Rattle.sheet_format.specs.declared.TapLine.{TapLine}
+use Rattle.sheet_format.specs.Sheet.{Sheet, Read, refused, sheet, tapOf, readSheet}
 use Rattle.sheet_calls.specs.Calls.{real, callsOf}
 
 -- ---- answers

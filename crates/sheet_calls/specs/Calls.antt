@@ -1,34 +1,29 @@
 -- The calls that a sheet stands for (document 01): "The program reads a sheet .., inserts, commits". An insert for each place, in order, its clip
 -- given with it; then one commit. On a fresh tree place k is the node (k − 1, 1).
-use Prim.Native.Nat.{ℕ, zero, suc, _-_, _%_}
-use mathlib.Core.Bool.{Bool, true, false, _&&_, cond}
+use Prim.Native.Nat.{ℕ, zero, suc, _%_}
+use mathlib.Core.Bool.{_&&_, cond}
 use mathlib.Core.List.{List, [], _∷_, _++_}
 use lib.Dec.{ltb}
 use lib.IntN.{ℤ, pos, negℤ, natAbs}
-use lib.Signed.{leZ}
 use lib.Ieee.{Float, binary64, ofInt}
-use Rattle.geometry_parts.specs.declared.insets.Insets.{Insets}
-use Rattle.geometry.specs.declared.rect.Rect.{Rect}
+use Rattle.geometry.specs.declared.insets.Insets.{Insets}
 use Rattle.geometry.specs.Rectangle.{rect}
-use Rattle.transforms.specs.declared.affine.Affine.{Affine}
-use Rattle.clips.specs.declared.clip.Clip.{Clip}
-use Rattle.clips.specs.declared.clip.Clip.the-variants as clip
-use Rattle.box_types.specs.declared.LocalNode.{LocalNode}
-use Rattle.box_types.specs.declared.OptionNodeId.{OptionNodeId}
-use Rattle.box_types.specs.declared.OptionNodeId.the-variants as node
-use Rattle.box_types.specs.Local.{flags}
+use Rattle.geometry.specs.declared.affine.Affine.{Affine}
+use Rattle.geometry_clips.specs.declared.clip.Clip.{Clip}
+use Rattle.geometry_clips.specs.declared.clip.Clip.the-variants as clip
+use Rattle.tree_types.specs.declared.LocalNode.{LocalNode}
+use Rattle.tree_types.specs.declared.OptionNodeId.{OptionNodeId}
+use Rattle.tree_types.specs.declared.OptionNodeId.the-variants as node
+use Rattle.tree_types.specs.Local.{flags}
 use Rattle.plan.specs.Calls as call
 use Rattle.plan.specs.Calls.{Call}
-use Rattle.plan_sheet.specs.declared.PlaceLine.{PlaceLine}
-use Rattle.plan_sheet.specs.declared.ClipLine.{ClipLine}
-use Rattle.plan_sheet.specs.Sheet.{Sheet, placeOf, clipOf}
+use Rattle.sheet_format.specs.declared.PlaceLine.{PlaceLine}
+use Rattle.sheet_format.specs.declared.ClipLine.{ClipLine}
+use Rattle.sheet_format.specs.Sheet.{Sheet, placeOf, clipOf, equal}
 
 -- a whole number as an f64; 0 is +0
 abbrev pub real : ℤ → Float
 real z = ofInt binary64 z
-
-abbrev pub equal : ℤ → ℤ → Bool
-equal a b = leZ a b && leZ b a
 
 -- ---- "Orientation k: from 4 up, first x becomes −x; then k mod 4 times (x, y) becomes (−y, x), the shift last; worked in whole numbers, zeros
 -- positive"

@@ -1,11 +1,11 @@
 -- What every accepted sheet has: rows of the right width, in range, that fit the rows before them, and no more of them than document 01 allows.
-use Prim.Native.Nat.{ℕ, _≤_}
+use Prim.Native.Nat.{_≤_}
 use mathlib.Core.Path.{_≡_}
 use mathlib.Core.Bool.{true}
 use mathlib.Core.List.{List, [], _∷_, _++_}
 use lib.IntN.{ℤ, natAbs}
 use lib.ListN.{length}
-use Rattle.plan_sheet.specs.Sheet.{Sheet, Rule, placeRule, clipRule, tapRule}
+use Rattle.sheet_format.specs.Sheet.{mostPlaces, mostTaps, Sheet, Rule, placeRule, clipRule, tapRule}
 use Rattle.sheet_calls.specs.Calls.{Linear}
 
 -- a row that its rule lets pass, after the rows before it in its section
@@ -20,9 +20,9 @@ Passes rule before [] = Unit {0}
 Passes rule before (row ∷ rows) = Fair rule before row × Passes rule (before ++ row ∷ []) rows
 
 pub record Good (s : Sheet) : Type 0 where
-  pub few-places : length (s .places) ≤ 256
+  pub few-places : length (s .places) ≤ mostPlaces
   pub few-clips : length (s .clips) ≤ length (s .places)
-  pub few-taps : length (s .taps) ≤ 1000
+  pub few-taps : length (s .taps) ≤ mostTaps
   pub places : Passes placeRule [] (s .places)
   pub clips : Passes (clipRule (length (s .places))) [] (s .clips)
   pub taps : Passes tapRule [] (s .taps)

@@ -1,6 +1,6 @@
 -- Rows in tables: how many, which one stands where, and the rows from one on. Assumes nothing.
-use Prim.Native.Nat.{ℕ, zero, suc, _+_, _*_, _-_, _≤_, _<_}
-use mathlib.Core.Path.{_≡_, refl, sym, ap, _∙_, subst}
+use Prim.Native.Nat.{ℕ, zero, suc, _+_, _*_, _≤_, _<_}
+use mathlib.Core.Path.{_≡_, refl, sym, ap, _∙_}
 use mathlib.Core.Bool.{true, false}
 use mathlib.Core.List.{List, [], _∷_}
 use native.Mathlib.Nat.{suc-mul, zero-mul}
@@ -9,11 +9,11 @@ use native.Mathlib.Numerals.{add-one}
 use lib.IntN.{ℤ, pos}
 use lib.ListN.{length, getD, take, drop, drop-of-length-le}
 use lib.Seq.{drop-drop, drop-cons}
-use Rattle.clips.specs.declared.clip.Clip.{Clip}
-use Rattle.clips.specs.declared.clip.Clip.the-variants as clip
-use Rattle.plan_sheet.specs.Sheet.{Sheet, clipOf}
-use Rattle.plan_sheet.specs.Told.{rowsOf, rowAt}
-use Rattle.sheet_calls.specs.Calls.{equal, clipOn, clipFor, callsOf}
+use Rattle.geometry_clips.specs.declared.clip.Clip.{Clip}
+use Rattle.geometry_clips.specs.declared.clip.Clip.the-variants as clip
+use Rattle.sheet_format.specs.Sheet.{clipWidth, Sheet, clipOf, equal}
+use Rattle.sheet_format.specs.Told.{rowsOf, rowAt}
+use Rattle.sheet_calls.specs.Calls.{clipOn, clipFor, callsOf}
 use Rattle.sheet_calls.specs.Good.{Good, Passes}
 use Rattle.sheet_laws.specs.Built.{treeOf, untapped}
 
@@ -36,22 +36,22 @@ rows-at w (suc n) t (suc i) h =
 module _ (n : ℕ) (t : List ℤ) (k : ℕ) where
   -- among the rows from i on
   abbrev pub clipFrom : ℕ → Clip
-  clipFrom i = clipFor (drop i (rowsOf 6 n t)) k
+  clipFrom i = clipFor (drop i (rowsOf clipWidth n t)) k
 
   pub none-left : (i : ℕ) → n ≤ i → clip.None ≡ clipFrom i
   unfolding clipFor
-  none-left i h = let l : length (rowsOf 6 n t) ≤ i = omega (arith, rows-many 6 n t) in rw (drop-of-length-le (rowsOf 6 n t) l)
+  none-left i h = let l : length (rowsOf clipWidth n t) ≤ i = omega (arith, rows-many clipWidth n t) in rw (drop-of-length-le (rowsOf clipWidth n t) l)
 
-  next-row : (i : ℕ) → i < n → drop i (rowsOf 6 n t) ≡ rowAt 6 i t ∷ drop (suc i) (rowsOf 6 n t)
+  next-row : (i : ℕ) → i < n → drop i (rowsOf clipWidth n t) ≡ rowAt clipWidth i t ∷ drop (suc i) (rowsOf clipWidth n t)
   next-row i h =
-      let l : i < length (rowsOf 6 n t) = omega (arith, rows-many 6 n t) in
-      drop-cons (rowsOf 6 n t) i [] l ∙ ap (λ (r : List ℤ). r ∷ drop (suc i) (rowsOf 6 n t)) (rows-at 6 n t i h)
+      let l : i < length (rowsOf clipWidth n t) = omega (arith, rows-many clipWidth n t) in
+      drop-cons (rowsOf clipWidth n t) i [] l ∙ ap (λ (r : List ℤ). r ∷ drop (suc i) (rowsOf clipWidth n t)) (rows-at clipWidth n t i h)
 
-  pub this-one : (i : ℕ) → i < n → equal (clipOf (rowAt 6 i t) .place) (pos k) ≡ true → clipOn (clipOf (rowAt 6 i t)) ≡ clipFrom i
+  pub this-one : (i : ℕ) → i < n → equal (clipOf (rowAt clipWidth i t) .place) (pos k) ≡ true → clipOn (clipOf (rowAt clipWidth i t)) ≡ clipFrom i
   unfolding clipFor
   this-one i h e = rw (next-row i h, e)
 
-  pub not-this : (i : ℕ) → i < n → equal (clipOf (rowAt 6 i t) .place) (pos k) ≡ false → clipFrom (i + 1) ≡ clipFrom i
+  pub not-this : (i : ℕ) → i < n → equal (clipOf (rowAt clipWidth i t) .place) (pos k) ≡ false → clipFrom (i + 1) ≡ clipFrom i
   unfolding clipFor
   not-this i h e = rw (next-row i h, e, add-one)
 

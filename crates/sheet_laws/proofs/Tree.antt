@@ -1,19 +1,15 @@
 -- On the box tree every call of a good sheet is accepted, by demand 3; and each tap after them answers the plan's definition on the redacted plan.
-use Prim.Native.Nat.{ℕ, zero, suc, _≤_, _<_}
-use mathlib.Core.Path.{_≡_, refl, sym, ap, _∙_, subst}
-use mathlib.Core.Bool.{Bool, true, false}
+use Prim.Native.Nat.{ℕ, suc, _<_}
+use mathlib.Core.Path.{_≡_, refl, sym, ap, _∙_}
+use mathlib.Core.Bool.{true}
 use mathlib.Core.List.{List, [], _∷_, _++_}
 use native.Mathlib.Omega.{arith}
-use lib.IntN.{ℤ, pos}
 use lib.Ieee.{nan}
 use lib.ListN.{length, take, getD}
-use borrow.Author.Tests.{lt-ltb}
-use Rattle.geometry_parts.specs.declared.point.Point.{Point}
-use Rattle.box_types.specs.declared.NodeFlags.{NodeFlags}
-use Rattle.box_types.specs.declared.OptionNodeId.the-variants as node
-use Rattle.box_types.specs.Local.{known, flags}
-use Rattle.tree_state.specs.declared.Tree.{Tree}
-use Rattle.tree_state.specs.declared.Refusal.{Refusal}
+use Rattle.geometry.specs.declared.point.Point.{Point}
+use Rattle.tree_types.specs.declared.NodeFlags.{NodeFlags}
+use Rattle.tree_types.specs.declared.OptionNodeId.the-variants as node
+use Rattle.tree_types.specs.Local.{known}
 use Rattle.tree_state.specs.declared.Refusal.the-variants as no
 use Rattle.tree_state.specs.declared.Verdict.{Verdict}
 use Rattle.tree_state.specs.declared.Verdict.the-variants as is
@@ -22,17 +18,17 @@ use Rattle.tree_state.specs.Sound.{soundTree}
 use Rattle.tree_steps.specs.Requests as request
 use Rattle.tree_steps.specs.Setters as set
 use Rattle.tree_run.specs.Run as tree
-use Rattle.plan.specs.Plan.{Plan, empty, needsCommit}
+use Rattle.plan.specs.Plan.{empty, needsCommit}
 use Rattle.plan.specs.Afresh as afresh
 use Rattle.plan.specs.Calls as call
-use Rattle.plan.specs.Calls.{Call, Outcome}
+use Rattle.plan.specs.Calls.{Call}
 use Rattle.plan.specs.Demand as demand
 use Rattle.plan.specs.Demand.{run, outcomes}
-use Rattle.demand3.proofs.Theorem.{Meets, meets-fresh, run-meets, refused-same, demand-3}
+use Rattle.demand3.proofs.Theorem.{meets-fresh, run-meets, refused-same, demand-3}
 use Rattle.demand3.proofs.Soundness.{sound-from-fresh}
-use Rattle.plan_sheet.specs.Sheet.{Sheet, placeOf}
+use Rattle.sheet_format.specs.Sheet.{Sheet, placeOf}
 use Rattle.sheet_calls.specs.Calls.{insertOf, insertsFrom, callsOf}
-use Rattle.sheet_calls.specs.Answers.{planOf, tapOn, askedOf, pointOf}
+use Rattle.sheet_calls.specs.Answers.{planOf}
 use Rattle.sheet_calls.specs.Good.{Good}
 use Rattle.sheet_calls.proofs.Inserts.{handedOut, next-accepted, next-calls, all-calls, run-append, sheet-outcomes, request-accepted}
 use Rattle.sheet_laws.specs.Built.{treeUpTo, treeOf}

@@ -7,7 +7,7 @@ use Rattle.tree_state.specs.declared.Tree.{Tree}
 use Rattle.tree_state.specs.Tree.{freshTree}
 use Rattle.tree_run.specs.Run as tree
 use Rattle.plan.specs.Demand.{run}
-use Rattle.plan_sheet.specs.Sheet.{Sheet}
+use Rattle.sheet_format.specs.Sheet.{Sheet}
 use Rattle.sheet_calls.specs.Calls.{insertsFrom, callsOf}
 
 -- after the inserts of the first j places

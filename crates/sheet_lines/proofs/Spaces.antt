@@ -11,7 +11,7 @@ use lib.IntN.{ℤ}
 use lib.ListN.{length, take, drop, set, length-drop, length-append, length-map, length-set}
 use lib.Seq.{take-length, drop-drop, take-suc-set, length-take-le}
 use Rattle.bytes.specs.Bytes.{slice, indexOf, indexAfter}
-use Rattle.sheet_lines.specs.Lines.{Decimal, Numbers, malformed, whole, numbers, decimal, onFirst, wordsOf, inFront, numbersOf, ofWidth, fields}
+use Rattle.sheet_lines.specs.Lines.{Decimal, lineWidth, Numbers, malformed, whole, numbers, decimal, onFirst, wordsOf, inFront, numbersOf, ofWidth, fields}
 use Rattle.sheet_lines.specs.Saturated.{saturated, saturatedDecimal, saturatedNumbers}
 
 -- the words from a position on; none behind the end
@@ -89,13 +89,13 @@ too-many zs (whole z) (numbers ys) =
 pub record Inv (line : List ℕ) (width : ℕ) (row : List ℤ) (at j : ℕ) : Type 0 where
   pub within : at ≤ length line + 1
   pub few : j ≤ width
-  pub long : length row ≡ 11
+  pub long : length row ≡ lineWidth
   pub read : rest 0 line ≡ onto (take j row) (rest at line)
 
-pub begin : (line : List ℕ) (width : ℕ) (row : List ℤ) → length row ≡ 11 → Inv line width row 0 0
+pub begin : (line : List ℕ) (width : ℕ) (row : List ℤ) → length row ≡ lineWidth → Inv line width row 0 0
 begin line width row l = record { within = omega arith; few = omega arith; long = l; read = onto-none (rest 0 line) }
 
-module _ (line : List ℕ) (width : ℕ) (row : List ℤ) (at j : ℕ) (w11 : width ≤ 11) (I : Inv line width row at j) where
+module _ (line : List ℕ) (width : ℕ) (row : List ℤ) (at j : ℕ) (narrow : width ≤ lineWidth) (I : Inv line width row at j) where
   behind : length line < at → rest at line ≡ numbers []
   unfolding numbersOf saturatedNumbers
   behind h = rw (lt-leb at (length line) h)

@@ -1,7 +1,7 @@
 -- Lines of whole numbers (document 01, "The plan sheet"): "Decimals without leading zeros or −0, one space between, LF after each line."
 -- A byte is its ASCII code.
-use Prim.Native.Nat.{ℕ, zero, suc, _+_, _*_, _-_}
-use mathlib.Core.Bool.{Bool, true, false, _&&_, cond}
+use Prim.Native.Nat.{ℕ, _+_, _*_, _-_}
+use mathlib.Core.Bool.{Bool, _&&_, cond}
 use mathlib.Core.List.{List, [], _∷_}
 use lib.Dec.{leb, eqb}
 use lib.IntN.{ℤ, pos, negℤ}
@@ -41,6 +41,10 @@ decimal [] = malformed
 decimal (b ∷ s) = cond (eqb b 45) (negated (positive s)) (cond (eqb b 48) (zeroThen s) (positive (b ∷ s)))
 
 -- ---- the numbers of a line
+
+-- the most that one has
+abbrev pub lineWidth : ℕ
+lineWidth = 11
 
 -- a byte in front of the first word
 abbrev pub onFirst : ℕ → List (List ℕ) → List (List ℕ)

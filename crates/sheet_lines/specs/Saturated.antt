@@ -1,7 +1,7 @@
 -- Numbers of any size in 64 bits: a number beyond 10^15 counts as 10^15, one below -10^15 as -10^15. What the structs of the code stand for.
-use Prim.Native.Nat.{ℕ, suc, _+_, min}
-use mathlib.Core.Bool.{Bool, true, false, cond}
-use mathlib.Core.List.{List, [], _∷_, _++_, map}
+use Prim.Native.Nat.{ℕ, min}
+use mathlib.Core.Bool.{cond}
+use mathlib.Core.List.{List, map}
 use lib.IntN.{ℤ, pos, negsuc}
 use lib.ListN.{take, drop}
 use Rattle.sheet_lines.specs.Lines.{Decimal, Numbers, malformed, whole, numbers, fields, Cut, without, line, cut}

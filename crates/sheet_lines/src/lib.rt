@@ -7,6 +7,9 @@ ghost use lib.ListN.{drop};
 ghost use Rattle.sheet_lines.specs.Lines as spec;
 ghost use Rattle.sheet_lines.specs.Saturated.{saturatedDecimal, saturatedNumbers, firstFields, toldDigits, toldWord, toldRow, toldLine};
 
+// The most numbers that a line has.
+pub const LINE_WIDTH: usize = 11;
+
 // What digits spell, if `good`; a number beyond 10^15 counts as 10^15, and so below.
 pub struct Digits {
     pub good: bool,
@@ -22,13 +25,13 @@ pub struct Word {
 // A line's numbers, in the first places of `row`, if `good`.
 pub struct Row {
     pub good: bool,
-    pub row: [i64; 11],
+    pub row: [i64; LINE_WIDTH],
 }
 
 // A line's numbers, if `good`, and the position behind its LF.
 pub struct LineRow {
     pub good: bool,
-    pub row: [i64; 11],
+    pub row: [i64; LINE_WIDTH],
     pub next: usize,
 }
 
@@ -118,16 +121,16 @@ fn no_row() -> Row
 {
     Row {
         good: false,
-        row: [0i64; 11],
+        row: [0i64; LINE_WIDTH],
     }
 }
 
 // The numbers of a line of `width` words.
 fn row_of(line: &[u8], width: usize) -> Row
-    requires { ⌜ width ≤ 11 ⌝ }
+    requires { ⌜ width ≤ spec.lineWidth ⌝ }
     ensures { λ r. ⌜ toldRow width r ≡ saturatedNumbers (spec.fields width (now (line .entry))) ⌝ }
 {
-    let mut row = [0i64; 11];
+    let mut row = [0i64; LINE_WIDTH];
     let mut at = 0;
     let mut j = 0;
     while j < width {
@@ -155,14 +158,14 @@ fn no_line() -> LineRow
 {
     LineRow {
         good: false,
-        row: [0i64; 11],
+        row: [0i64; LINE_WIDTH],
         next: 0,
     }
 }
 
 // Inner: the line of `width` numbers that begins at `at`. A line has its LF.
 pub fn fields_at(s: &[u8], at: usize, width: usize) -> LineRow
-    requires { ⌜ width ≤ 11 ⌝ }
+    requires { ⌜ width ≤ spec.lineWidth ⌝ }
     ensures { λ r. ⌜ toldLine width (now (s .entry)) r ≡ firstFields width (drop at (now (s .entry))) ⌝ }
 {
     if at > s.len() {

@@ -1,11 +1,26 @@
-// The sheet reader: one thing that holds the bytes and its place in them.
+// The sheet reader: one thing that holds the bytes and its place in them, and what it reads there by line, by section and whole.
+
+// The end of a sheet: its taps, and what is behind them.
+pub mod end;
+// The ranges of a line's numbers (refusal 22).
+pub mod ranges;
+// The places that a line names (refusal 23).
+pub mod references;
+// A sheet that is refused.
+pub mod refusals;
+// A section: a count, and as many lines of one kind.
+pub mod sections;
+// The whole sheet, section by section.
+pub mod whole;
+
 ghost use mathlib.Core.Path.{_≡_};
 ghost use Prim.Native.Nat.{_≤_};
 ghost use lib.ListN.{drop};
+ghost use Rattle.sheet_lines.specs.Lines.{lineWidth};
 ghost use Rattle.sheet_lines.specs.Saturated.{toldLine, firstFields};
-ghost use Rattle.plan_sheet.specs.Sheet.{readSheet};
-ghost use Rattle.plan_sheet.specs.Told.{told};
-use plan_sheet::Parsed;
+ghost use Rattle.sheet_format.specs.Sheet.{readSheet};
+ghost use Rattle.sheet_format.specs.Told.{told};
+use sheet_format::Parsed;
 use sheet_lines::LineRow;
 
 pub struct Reader<'a> {
@@ -21,7 +36,7 @@ pub fn new<'a>(src: &'a [u8]) -> Reader<'a>
 
 // Inner: the line of `width` numbers at the reader's place.
 pub fn line<'a>(r: Reader<'a>, width: usize) -> LineRow
-    requires { ⌜ width ≤ 11 ⌝ }
+    requires { ⌜ width ≤ lineWidth ⌝ }
     ensures { λ f. ⌜ toldLine width (now (r .entry .src)) f ≡ firstFields width (drop (r .entry .at) (now (r .entry .src))) ⌝ }
 {
     sheet_lines::fields_at(r.src, r.at, width)
@@ -31,7 +46,7 @@ pub fn line<'a>(r: Reader<'a>, width: usize) -> LineRow
 pub fn sheet<'a>(r: Reader<'a>) -> Parsed
     ensures { λ p. ⌜ told p ≡ readSheet (drop (r .entry .at) (now (r .entry .src))) ⌝ }
 {
-    sheet_whole::sheet_at(r.src, r.at)
+    whole::sheet_at(r.src, r.at)
 }
 
 // The sheet that some bytes are.

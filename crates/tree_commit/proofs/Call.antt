@@ -16,9 +16,9 @@ use Rattle.tree_state.specs.Tree.{numberIn}
 use Rattle.tree_state.specs.Sound.{soundTree}
 use Rattle.tree_steps.specs.Setters.{held}
 use Rattle.tree_steps.specs.Commit.{commitTree, commitVerdict, rectsInFront}
-use Rattle.tree_nodes.proofs.Nodes.{checked-accepted}
-use Rattle.commit_work.specs.declared.Done.{Done}
-use Rattle.commit_work.specs.Done.{done}
+use Rattle.tree_verdicts.proofs.nodes.Nodes.{checked-accepted}
+use Rattle.tree_commit.specs.declared.work.Done.{Done}
+use Rattle.tree_commit.specs.work.Done.{done}
 use Rattle.tree_commit.specs.declared.Committed.the-variants as of
 use Rattle.tree_commit.specs.Commit.{afterWork, commitCall, roomAfter, commitRoom, committedNumber}
 

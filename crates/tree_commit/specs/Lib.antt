@@ -1,1 +1,3 @@
+pub mod queue
+pub mod work
 pub mod Commit

@@ -1,11 +1,16 @@
 // The box tree's `commit` (tree.rs), by value: every tree and every room is taken, and a refused call returns the tree and leaves the room as
 // they were given.
+pub mod queue; // the index's commit within it
+pub mod room; // the pending rectangles, and no mark
+pub mod work; // the work on a sound tree
+
 ghost use mathlib.Core.Path.{_≡_};
 ghost use lib.ListN.{length};
 ghost use Rattle.tree_commit.specs.Commit as spec;
 use tree_state::Refusal;
 use tree_state::Tree;
 use tree_state::Verdict;
+use tree_verdicts::nodes;
 
 // What commit answers: how many rectangles of damage stand in front of the room, four numbers each.
 pub enum Committed {
@@ -23,11 +28,11 @@ pub fn commit(t: Tree, room: &mut [f64]) -> AfterCommit
     ensures answer { λ r. ⌜ r ≡ spec.commitCall t (length (now (room .entry))) ⌝ }
     ensures room { λ _. ⌜ now (room .exit) ≡ spec.commitRoom t (now (room .entry)) ⌝ }
 {
-    let held = tree_nodes::held(t);
+    let held = nodes::held(t);
     let v = tree_state::check(held, !(room.len() < 2048), Refusal::ShortRoom);
     match v {
         Verdict::Accepted => {
-            let done = commit_work::commit_sound(t, room);
+            let done = work::commit_sound(t, room);
             let tree = done.tree;
             AfterCommit {
                 answer: Committed::Damage(done.count),

@@ -6,16 +6,16 @@ use mathlib.Core.List.{List, [], _∷_, _++_}
 use Prim.Native.Nat.{ℕ}
 use lib.IntN.{ℤ}
 use lib.ListN.{length, drop}
-use Rattle.geometry_parts.specs.declared.point.Point.{Point}
+use Rattle.geometry.specs.declared.point.Point.{Point}
 use Rattle.geometry.specs.declared.rect.Rect.{Rect}
-use Rattle.geometry_parts.specs.declared.insets.Insets.{Insets}
-use Rattle.transforms.specs.declared.affine.Affine.{Affine}
-use Rattle.clips.specs.declared.clip.Clip.{Clip}
-use Rattle.boxes.specs.declared.NodeId.{NodeId}
-use Rattle.box_types.specs.declared.NodeFlags.{NodeFlags}
-use Rattle.box_types.specs.declared.LocalNode.{LocalNode}
-use Rattle.box_types.specs.declared.OptionNodeId.{OptionNodeId}
-use Rattle.box_types.specs.declared.OptionNodeId.the-variants as node
+use Rattle.geometry.specs.declared.insets.Insets.{Insets}
+use Rattle.geometry.specs.declared.affine.Affine.{Affine}
+use Rattle.geometry_clips.specs.declared.clip.Clip.{Clip}
+use Rattle.index_types.specs.declared.NodeId.{NodeId}
+use Rattle.tree_types.specs.declared.NodeFlags.{NodeFlags}
+use Rattle.tree_types.specs.declared.LocalNode.{LocalNode}
+use Rattle.tree_types.specs.declared.OptionNodeId.{OptionNodeId}
+use Rattle.tree_types.specs.declared.OptionNodeId.the-variants as node
 use Rattle.tree_state.specs.declared.After.{After}
 use Rattle.tree_state.specs.declared.Tree.{Tree}
 use Rattle.tree_state.specs.declared.Verdict.{Verdict}
@@ -26,7 +26,7 @@ use Rattle.tree_steps.specs.Structure as structure
 use Rattle.tree_steps.specs.Commit as steps
 use Rattle.tree_steps.specs.Requests as request
 use Rattle.tree_steps.specs.Readings.{parentOf, childrenOf, nextOf, prevOf, worldVerdict, childrenVerdict}
-use Rattle.tree_answers.specs.Answers as reads
+use Rattle.tree_readings.specs.answers.Answers as reads
 use Rattle.tree_insert.specs.Insert as insert
 use Rattle.tree_commit.specs.Commit as commit
 use Rattle.tree_listings.specs.Listings as listing
@@ -219,8 +219,8 @@ unfolding request.idsInFront
 ids-front l room = ids-back l (drop (length (request.numbersOf l)) room)
 
 -- the verdict's number, or the ids that stand in front of the room
-listing-tells : (v : Verdict) (l : List NodeId) (room : List ℕ) → listingTold (listing.listedIf v l) (listing.roomIf v l room) ≡ listingIf v l
-unfolding listingTold listing.listedIf listing.roomIf request.idsInFront
+listing-tells : (v : Verdict) (l : List NodeId) (room : List ℕ) → listingTold (listing.listedIf v l) (request.roomIf v l room) ≡ listingIf v l
+unfolding listingTold listing.listedIf request.roomIf request.idsInFront
 listing-tells is.Accepted l room = ap listed (ids-back l (drop (length (request.numbersOf l)) room))
 listing-tells (is.Refused r) l room = refl
 
@@ -248,11 +248,11 @@ module _ (t : Tree) (asked : NodeFlags) (room : List ℕ) where
 
   -- ---- taps
   pub tap-tells : (pt : Point) → tapTold (tap.tapCall t asked pt (length room)) (tap.tapRoom t asked pt room) ≡ tree.answer t asked (length room) (call.hit-test-point pt)
-  unfolding tree.answer tapTold tap.tappedIf listing.roomIf
+  unfolding tree.answer tapTold tap.tappedIf request.roomIf
   tap-tells pt = go v (request.hitNode t asked pt) refl
     where
       go : (w : Verdict) (b : request.Best) → request.hitNode t asked pt ≡ b
-          → tapTold (tap.tappedIf w t b) (listing.roomIf w (request.pathOf t b) room) ≡ tree.answerIf w t asked (call.hit-test-point pt)
+          → tapTold (tap.tappedIf w t b) (request.roomIf w (request.pathOf t b) room) ≡ tree.answerIf w t asked (call.hit-test-point pt)
       go is.Accepted request.nobody e = sym (ap (λ (b : request.Best). tapped (tree.tapOf t b)) e)
       go is.Accepted (request.best x) e =
           ap (λ (l : List NodeId). tapped (hit (idAt t x) l)) (ids-front (request.pathTo t x) room)

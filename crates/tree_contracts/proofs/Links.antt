@@ -4,16 +4,16 @@ use mathlib.Core.Bool.{true, cond}
 use mathlib.Core.List.{List, [], _∷_, map}
 use Prim.Native.Nat.{ℕ}
 use lib.Dec.{ltb}
-use Rattle.boxes.specs.declared.NodeId.{NodeId}
-use Rattle.box_types.specs.declared.OptionNodeId.{OptionNodeId}
-use Rattle.box_types.specs.declared.OptionNodeId.the-variants as node
-use Rattle.forest.specs.Forest.{Forest, has, above, children}
-use Rattle.forest.specs.Walk.{next, prev}
+use Rattle.index_types.specs.declared.NodeId.{NodeId}
+use Rattle.tree_types.specs.declared.OptionNodeId.{OptionNodeId}
+use Rattle.tree_types.specs.declared.OptionNodeId.the-variants as node
+use Rattle.link_forest.specs.Forest.{has, above, children}
+use Rattle.link_forest.specs.Walk.{next, prev}
 use Rattle.tree_state.specs.declared.Tree.{Tree}
 use Rattle.tree_state.specs.Tree.{isLive, idAt}
 use Rattle.tree_steps.specs.Readings.{nearest, parentOf, childrenOf, nextOf, prevOf}
 use Rattle.tree_laws.proofs.Ground.{Linked, live-has}
-use Rattle.link_readings.proofs.Walk.{next-is, prev-is, parent-is, children-are}
+use Rattle.tree_links.proofs.Walk.{next-is, prev-is, parent-is, children-are}
 use Rattle.plan.specs.Plan.{Plan, idOf}
 use Rattle.plan.specs.Calls.{Call}
 use Rattle.demand3.proofs.Soundness.{after, meets-after}

@@ -25,11 +25,11 @@ abbrev pub joined : List Rect → Joined
 joined rs = joinAll is.None rs
 
 -- the room is shorter than its count says
-abbrev pub short : ℕ → ℕ → Bool
-short len n = ltb (len / 4) n
+abbrev pub shortOf : ℕ → ℕ → Bool
+shortOf len n = ltb (len / 4) n
 
 unfoldable pub unionRect : List Float → ℕ → Joined
-unionRect room n = cond (short (length room) n) is.ShortRoom (joined (rectsOf room n))
+unionRect room n = cond (shortOf (length room) n) is.ShortRoom (joined (rectsOf room n))
 
 -- the number that the answer gives: 0 for a union or none, and document 01's 8 where the room is shorter than its count says
 unfoldable pub joinedNumber : Joined → ℕ

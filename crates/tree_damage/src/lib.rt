@@ -6,6 +6,7 @@ ghost use Rattle.node_tables.specs.Tables.{rectAt};
 ghost use Rattle.tree_steps.specs.Commit.{rectsOf};
 ghost use Rattle.tree_damage.specs.Damage as spec;
 use geometry::rect::Rect;
+use index_types::flat_tables::box_in;
 
 // The union of the rectangles so far, if there is one; or the refusal 8, where the room is shorter than its count says.
 pub enum Joined {
@@ -30,12 +31,12 @@ fn rect_in(room: &[f64], i: usize) -> Rect
     requires { ⌜ 4 * i + 4 ≤ length (now room) ⌝ }
     ensures { λ r. ⌜ r ≡ rectAt (now (room .entry)) i ⌝ }
 {
-    let p = 4 * i;
+    let b = box_in(room, i);
     Rect {
-        x0: room[p],
-        y0: room[p + 1],
-        x1: room[p + 2],
-        y1: room[p + 3],
+        x0: b.min_x,
+        y0: b.min_y,
+        x1: b.max_x,
+        y1: b.max_y,
     }
 }
 

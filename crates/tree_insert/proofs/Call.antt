@@ -1,17 +1,17 @@
 -- The call from its verdict: what an accepted one has, and what it answers.
 use mathlib.Core.Path.{_≡_, refl, subst}
 use mathlib.Core.Bool.{true}
-use Prim.Native.Nat.{ℕ, _≤_, _<_}
+use Prim.Native.Nat.{_≤_, _<_}
 use borrow.Author.Tests.{ltb-true}
 use lib.Dec.{ltb}
 use lib.ListN.{take}
-use Rattle.forest.specs.Table.{depthsFrom}
-use Rattle.links.specs.declared.Links.{Links}
-use Rattle.boxes.specs.declared.NodeId.{NodeId}
-use Rattle.box_types.specs.declared.LocalNode.{LocalNode}
-use Rattle.box_types.specs.declared.OptionNodeId.{OptionNodeId}
-use Rattle.box_types.specs.declared.OptionNodeId.the-variants as node
-use Rattle.box_types.specs.Local.{finiteLocal, known, stored}
+use Rattle.link_forest.specs.Table.{depthsFrom}
+use Rattle.link_table.specs.declared.Links.{Links}
+use Rattle.index_types.specs.declared.NodeId.{NodeId}
+use Rattle.tree_types.specs.declared.LocalNode.{LocalNode}
+use Rattle.tree_types.specs.declared.OptionNodeId.{OptionNodeId}
+use Rattle.tree_types.specs.declared.OptionNodeId.the-variants as node
+use Rattle.tree_types.specs.Local.{finiteLocal, known, stored}
 use Rattle.tree_state.specs.declared.Slots.{Slots}
 use Rattle.tree_state.specs.declared.Locals.{Locals}
 use Rattle.tree_state.specs.declared.Worlds.{Worlds}
@@ -22,21 +22,21 @@ use Rattle.tree_state.specs.declared.Refusal.{Refusal}
 use Rattle.tree_state.specs.declared.Refusal.the-variants as no
 use Rattle.tree_state.specs.declared.Verdict.{Verdict}
 use Rattle.tree_state.specs.declared.Verdict.the-variants as is
-use Rattle.tree_state.specs.Tree.{checked, numberOf, numberIn, placeOf}
+use Rattle.tree_state.specs.Tree.{checked, numberIn, positionOf}
 use Rattle.tree_steps.specs.Setters.{held, markBoth}
 use Rattle.tree_steps.specs.Structure.{slotOf, newId, parentLive, insertVerdict, takeSlot, linkNew, storeLocal, clearBoxes, withoutKey, insertTree}
-use Rattle.tree_nodes.proofs.Lengths.{Told, sized}
-use Rattle.tree_nodes.proofs.Nodes.{Held, checked-accepted, held-accepted, live-node}
-use Rattle.tree_changes.proofs.Handed.{whole}
-use Rattle.keep_calls.proofs.Links.{new-low}
-use Rattle.node_slots.specs.Slots.{idOf}
+use Rattle.tree_verdicts.proofs.nodes.Lengths.{Told, sized}
+use Rattle.tree_verdicts.proofs.nodes.Nodes.{Held, checked-accepted, held-accepted, live-node}
+use Rattle.tree_verdicts.proofs.marks.Handed.{whole}
+use Rattle.tree_invariant.proofs.calls.Links.{new-low}
+use Rattle.tree_insert.specs.slots.Slots.{idOf}
 use Rattle.tree_insert.specs.declared.AfterInsert.{AfterInsert}
 use Rattle.tree_insert.specs.declared.Inserted.the-variants as inserts
 use Rattle.tree_insert.specs.Insert.{insertedNumber, inserted, insertCall, Placed}
 
 -- ---- its place
 
-pub placed-some : (t : Tree) (parent : OptionNodeId) (h : NodeId) → parent ≡ node.Some h → Placed t parent → placeOf t (h .0) < t .links .count
+pub placed-some : (t : Tree) (parent : OptionNodeId) (h : NodeId) → parent ≡ node.Some h → Placed t parent → positionOf t (h .0) < t .links .count
 placed-some t parent h e p = subst (Placed t) e p
 
 -- ---- an accepted call

@@ -1,13 +1,13 @@
 -- What insert answers, and the tree after it.
 use Prim.Native.Nat.{ℕ, _<_}
-use Rattle.boxes.specs.declared.NodeId.{NodeId}
-use Rattle.box_types.specs.declared.LocalNode.{LocalNode}
-use Rattle.box_types.specs.declared.OptionNodeId.{OptionNodeId}
-use Rattle.box_types.specs.declared.OptionNodeId.the-variants as node
+use Rattle.index_types.specs.declared.NodeId.{NodeId}
+use Rattle.tree_types.specs.declared.LocalNode.{LocalNode}
+use Rattle.tree_types.specs.declared.OptionNodeId.{OptionNodeId}
+use Rattle.tree_types.specs.declared.OptionNodeId.the-variants as node
 use Rattle.tree_state.specs.declared.Tree.{Tree}
 use Rattle.tree_state.specs.declared.Verdict.{Verdict}
 use Rattle.tree_state.specs.declared.Verdict.the-variants as is
-use Rattle.tree_state.specs.Tree.{placeOf, numberOf}
+use Rattle.tree_state.specs.Tree.{positionOf, numberOf}
 use Rattle.tree_steps.specs.Setters.{treeIf}
 use Rattle.tree_steps.specs.Structure.{newId, insertVerdict, insertTree}
 use Rattle.tree_insert.specs.declared.Inserted.{Inserted}
@@ -34,4 +34,4 @@ insertCall t parent v =
 -- the parent, if there is one, has a place
 abbrev pub Placed : Tree → OptionNodeId → Type 0
 Placed t node.None = Unit {0}
-Placed t (node.Some h) = placeOf t (h .0) < t .links .count
+Placed t (node.Some h) = positionOf t (h .0) < t .links .count

@@ -1,1 +1,2 @@
+pub mod slots
 pub mod Insert

@@ -1,24 +1,29 @@
 // tree.rs's `insert`, by value: a slot is taken, the new node linked last under its parent or last of the roots, its local record stored, and the
 // node marked, changed in both. A refused call returns the tree as it was given.
+pub mod slots; // the slot that is taken
+pub mod stores; // what is stored there
+pub mod verdict; // why it is refused
+
 ghost use mathlib.Core.Path.{_≡_};
 ghost use mathlib.Core.Bool.{true};
 ghost use Prim.Native.Nat.{_<_};
 ghost use lib.ListN.{take};
-ghost use Rattle.forest.specs.Table.{depthsFrom};
+ghost use Rattle.link_forest.specs.Table.{depthsFrom};
 ghost use Rattle.tree_steps.specs.Structure as step;
 ghost use Rattle.tree_insert.specs.Insert as spec;
-use box_types::LocalNode;
-use box_types::OptionNodeId;
-use boxes::NodeId;
-use links::Links;
-use local_stores::clear_boxes;
-use local_stores::store_local;
-use local_stores::without_key;
-use node_slots::next_id;
-use node_slots::take_slot;
+use crate::slots::next_id;
+use crate::slots::take_slot;
+use crate::stores::clear_boxes;
+use crate::stores::store_local;
+use crate::stores::without_key;
+use index_types::NodeId;
+use link_table::Links;
 use tree_state::Refusal;
 use tree_state::Tree;
 use tree_state::Verdict;
+use tree_types::LocalNode;
+use tree_types::OptionNodeId;
+use tree_verdicts::marks;
 
 // The new node's id, or why there is none; `spec.insertedNumber` has document 01's numbers.
 pub enum Inserted {
@@ -40,10 +45,10 @@ fn link_parent(t: Tree, parent: OptionNodeId, x: u32) -> Links
 {
     let l = t.links;
     match parent {
-        OptionNodeId::None => links::add_root(l, x),
+        OptionNodeId::None => link_table::add_root(l, x),
         OptionNodeId::Some(h) => {
-            let at = links::position(&l.order, l.count, h.0);
-            links::add_last(l, at, x)
+            let at = link_table::position(&l.order, l.count, h.0);
+            link_table::add_last(l, at, x)
         }
     }
 }
@@ -53,7 +58,7 @@ fn link_parent(t: Tree, parent: OptionNodeId, x: u32) -> Links
 pub fn insert(t: Tree, parent: OptionNodeId, local: LocalNode) -> AfterInsert
     ensures { λ r. ⌜ r ≡ spec.insertCall t parent local ⌝ }
 {
-    let v = insert_verdict::test(t, parent, local);
+    let v = verdict::test(t, parent, local);
     match v {
         Verdict::Accepted => {
             let slots = t.slots;
@@ -70,7 +75,7 @@ pub fn insert(t: Tree, parent: OptionNodeId, local: LocalNode) -> AfterInsert
                 links: link_parent(t, parent, id.0),
                 locals: store_local(locals, x, local),
                 worlds: clear_boxes(worlds, x),
-                marks: tree_changes::mark_both(marks, x),
+                marks: marks::mark_both(marks, x),
                 keys: without_key(keys, x),
                 pending,
                 index,

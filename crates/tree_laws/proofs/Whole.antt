@@ -8,9 +8,9 @@ use Rattle.tree_state.specs.declared.Marks.{Marks}
 use Rattle.tree_state.specs.declared.Keys.{Keys}
 use Rattle.tree_state.specs.declared.Tree.{Tree}
 use Rattle.tree_state.specs.Tree.{freshTree}
-use Rattle.links.specs.declared.Links.{Links}
-use Rattle.understory_index.specs.declared.Index.{Index}
-use Rattle.understory_index.specs.Index.{freshIndex}
+use Rattle.link_table.specs.declared.Links.{Links}
+use Rattle.index_state.specs.declared.Index.{Index}
+use Rattle.index_state.specs.Index.{freshIndex}
 use Rattle.tree_sound.specs.Parts.{Sized}
 
 pub record WholeSlots (s : Slots) : Type 0 where

@@ -1,1 +1,2 @@
+pub mod entries
 pub mod Listings

@@ -2,14 +2,14 @@
 use mathlib.Core.List.{List}
 use Prim.Native.Nat.{ℕ}
 use lib.ListN.{length}
-use Rattle.geometry_parts.specs.declared.point.Point.{Point}
+use Rattle.geometry.specs.declared.point.Point.{Point}
 use Rattle.geometry.specs.declared.rect.Rect.{Rect}
-use Rattle.boxes.specs.declared.NodeId.{NodeId}
-use Rattle.box_types.specs.declared.NodeFlags.{NodeFlags}
+use Rattle.index_types.specs.declared.NodeId.{NodeId}
+use Rattle.tree_types.specs.declared.NodeFlags.{NodeFlags}
 use Rattle.tree_state.specs.declared.Verdict.{Verdict}
 use Rattle.tree_state.specs.declared.Verdict.the-variants as is
 use Rattle.tree_state.specs.declared.Tree.{Tree}
-use Rattle.tree_steps.specs.Requests.{idsInFront, requestVerdict, rectNodes, pointNodes}
+use Rattle.tree_steps.specs.Requests.{requestVerdict, roomIf, rectNodes, pointNodes}
 use Rattle.tree_listings.specs.declared.Listed.{Listed}
 use Rattle.tree_listings.specs.declared.Listed.the-variants as listed
 
@@ -17,11 +17,6 @@ use Rattle.tree_listings.specs.declared.Listed.the-variants as listed
 unfoldable pub listedIf : Verdict → List NodeId → Listed
 listedIf is.Accepted l = listed.Nodes (length l)
 listedIf (is.Refused r) l = listed.Refused r
-
--- a refused call leaves the room as it was
-unfoldable pub roomIf : Verdict → List NodeId → List ℕ → List ℕ
-roomIf is.Accepted l room = idsInFront l room
-roomIf (is.Refused r) l room = room
 
 -- ---- the calls: what each answers, and the room after it
 

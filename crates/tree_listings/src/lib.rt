@@ -1,14 +1,16 @@
 // Listings (tree.rs: intersect_rect, containing_point): ids in front of lent room, in entry order.
+pub mod entries; // the entries that are taken
+
 ghost use mathlib.Core.Path.{_≡_};
 ghost use lib.ListN.{length};
 ghost use Rattle.tree_listings.specs.Listings as spec;
-use box_types::QueryFilter;
 use geometry::point::Point;
 use geometry::rect::Rect;
-pub use listing_entries::put_id;
 use tree_state::Refusal;
 use tree_state::Tree;
 use tree_state::Verdict;
+use tree_types::QueryFilter;
+use tree_verdicts::requests;
 
 // What a listing answers: how many ids stand in front of the room, two numbers each.
 pub enum Listed {
@@ -23,7 +25,7 @@ pub fn intersect_rect(t: Tree, rect: Rect, filter: QueryFilter, room: &mut [u32]
 {
     let asked = filter.required_flags;
     let len = room.len();
-    let v = tree_verdict::verdict(
+    let fresh = requests::asked_verdict(
         &t.links.order,
         &t.links.depth,
         &t.slots.generation,
@@ -55,12 +57,12 @@ pub fn intersect_rect(t: Tree, rect: Rect, filter: QueryFilter, room: &mut [u32]
         t.index.queued,
         t.index.used,
         asked,
-        len,
     );
+    let v = requests::room_verdict(fresh, len);
     if let Verdict::Refused(r) = v {
         return Listed::Refused(r);
     }
-    let n = listing_entries::list(
+    let n = entries::list(
         &t.index.backend.present,
         &t.index.backend.boxes,
         &t.index.mark,

@@ -6,23 +6,24 @@ use native.Mathlib.Omega.{arith}
 use native.Mathlib.Decide.{decLt}
 use borrow.Author.Tests.{le-leb, lt-ltb, not-true}
 use Rattle.counting.proofs.Kit.{contra}
-use Rattle.boxes.specs.declared.NodeId.{NodeId}
-use Rattle.box_types.specs.declared.OptionNodeId.{OptionNodeId}
-use Rattle.box_types.specs.declared.OptionNodeId.the-variants as node
-use Rattle.links.specs.declared.Links.{Links}
-use Rattle.links.specs.Links.{endOf}
+use Rattle.index_types.specs.declared.NodeId.{NodeId}
+use Rattle.tree_types.specs.declared.OptionNodeId.{OptionNodeId}
+use Rattle.tree_types.specs.declared.OptionNodeId.the-variants as node
+use Rattle.link_table.specs.declared.Links.{Links}
+use Rattle.link_table.specs.Links.{endOf}
 use Rattle.tree_state.specs.declared.Marks.{Marks}
 use Rattle.tree_state.specs.declared.Tree.{Tree}
 use Rattle.tree_state.specs.declared.Refusal.the-variants as no
 use Rattle.tree_state.specs.declared.Verdict.{Verdict}
 use Rattle.tree_state.specs.declared.Verdict.the-variants as is
-use Rattle.tree_state.specs.Tree.{placeOf, checked}
+use Rattle.tree_state.specs.Tree.{positionOf, checked}
 use Rattle.tree_steps.specs.Setters.{ofNode, markBoth}
 use Rattle.tree_steps.specs.Structure.{parentLive, atOrBelow, reparentVerdict, moveLinks, reparentTree}
-use Rattle.tree_nodes.proofs.Lengths.{Told, sized}
-use Rattle.tree_nodes.specs.Live.{parentIn}
-use Rattle.tree_nodes.proofs.Nodes.{Held, Node, checked-accepted, node-accepted, live-node, parent-in}
-use Rattle.tree_reparent.specs.Below.{placeIn, isBelow, moveTo, Outside}
+use Rattle.tree_verdicts.proofs.nodes.Lengths.{Told, sized}
+use Rattle.tree_verdicts.specs.nodes.Live.{parentIn}
+use Rattle.tree_verdicts.proofs.nodes.Nodes.{Held, Node, checked-accepted, node-accepted, live-node, parent-in}
+use Rattle.tree_verdicts.proofs.marks.Answers.{place-fits}
+use Rattle.tree_reparent.specs.Below.{positionIn, isBelow, moveTo, Outside, Movable}
 
 -- ---- the definitions over the links are the tree's
 
@@ -40,13 +41,13 @@ pub outside : (t : Tree) (i : ℕ) (parent : OptionNodeId) → Held t → parent
 outside t i node.None H p b = tt
 outside t i (node.Some h) H p b = (
   live-node t H h p .place-fits,
-  λ l. elim (decLt (placeOf t (h .0)) (endOf (t .links) i)) [
-    | yes k ↦ absurd (contra (rw (le-leb i (placeOf t (h .0)) l, lt-ltb (placeOf t (h .0)) (endOf (t .links) i) k)) b)
+  λ l. elim (decLt (positionOf t (h .0)) (endOf (t .links) i)) [
+    | yes k ↦ absurd (contra (rw (le-leb i (positionOf t (h .0)) l, lt-ltb (positionOf t (h .0)) (endOf (t .links) i) k)) b)
     | no g ↦ omega arith
   ],
 )
 
-pub outside-some : (l : Links) (i to : ℕ) (parent : OptionNodeId) (h : NodeId) → parent ≡ node.Some h → Outside l i parent → to ≡ placeIn l (h .0)
+pub outside-some : (l : Links) (i to : ℕ) (parent : OptionNodeId) (h : NodeId) → parent ≡ node.Some h → Outside l i parent → to ≡ positionIn l (h .0)
     → (to < l .count) × (i ≤ to → endOf l i ≤ to)
 outside-some l i to parent h e o f = rw f (subst (Outside l i) e o)
 
@@ -67,17 +68,30 @@ live-both t i parent v g e f =
 
 -- ---- the last test
 
-pub tested-all : (t : Tree) (i : NodeId) (parent : OptionNodeId) (v w : Verdict) (at : ℕ) (b : Bool) → v ≡ first t i parent → at ≡ placeOf t (i .0)
+pub tested-all : (t : Tree) (i : NodeId) (parent : OptionNodeId) (v w : Verdict) (at : ℕ) (b : Bool) → v ≡ first t i parent → at ≡ positionOf t (i .0)
     → b ≡ atOrBelow t at parent → w ≡ checked v (not b) no.BelowItself → w ≡ reparentVerdict t i parent
 tested-all t i parent v w at b e p q f = f ∙ rw (q, p, e)
 
-pub not-below : (t : Tree) (parent : OptionNodeId) (v w : Verdict) (at : ℕ) (b : Bool) → b ≡ atOrBelow t at parent → w ≡ checked v (not b) no.BelowItself
-    → w ≡ is.Accepted → atOrBelow t at parent ≡ false
-not-below t parent v w at b q f a = sym q ∙ not-true b (checked-accepted v (not b) no.BelowItself (sym f ∙ a) .1)
+-- ---- the move
 
--- ---- the tree
+-- what an accepted verdict gives it
+pub movable : (t : Tree) (i : NodeId) (parent : OptionNodeId) (at : ℕ) → Told t → reparentVerdict t i parent ≡ is.Accepted → at ≡ positionOf t (i .0)
+    → Movable t at (i .0) parent
+movable t i parent at g a e =
+    let p = checked-accepted (first t i parent) (not (atOrBelow t (positionOf t (i .0)) parent)) no.BelowItself a in
+    let both = live-both t i parent (first t i parent) g refl (p .0) in
+    let N = both .0 in
+    record {
+      position = e;
+      position-fits = place-fits t i at N e;
+      count-fits = N .whole .count-fits;
+      slot-low = N .slot-low;
+      depths = N .whole .depths;
+      outside = outside t at parent (N .whole) (both .1) (rw e (not-true (atOrBelow t (positionOf t (i .0)) parent) (p .1)));
+    }
 
-pub moved : (t : Tree) (x at : ℕ) (parent : OptionNodeId) (links : Links) (marks : Marks) → at ≡ placeOf t x → links ≡ moveLinks t at parent
+-- what it leaves
+pub moved : (t : Tree) (x at : ℕ) (parent : OptionNodeId) (links : Links) (marks : Marks) → at ≡ positionOf t x → links ≡ moveLinks t at parent
     → marks ≡ markBoth (t .marks) x
     → record { slots = t .slots; links = links; locals = t .locals; worlds = t .worlds; marks = marks; keys = t .keys; pending = t .pending; index = t .index }
     ≡ reparentTree t x parent

@@ -4,18 +4,21 @@ ghost use mathlib.Core.Path.{_≡_};
 ghost use mathlib.Core.Bool.{true};
 ghost use Prim.Native.Nat.{_<_, _≤_};
 ghost use lib.ListN.{take};
-ghost use Rattle.forest.specs.Table.{depthsFrom};
+ghost use Rattle.link_forest.specs.Table.{depthsFrom};
 ghost use Rattle.tree_steps.specs.Structure as step;
 ghost use Rattle.tree_reparent.specs.Below as spec;
-use box_types::OptionNodeId;
-use boxes::NodeId;
-use links::Links;
+use index_types::NodeId;
+use link_table::Links;
+use link_table::moves;
 use tree_state::After;
 use tree_state::Refusal;
 use tree_state::Tree;
 use tree_state::Verdict;
+use tree_types::OptionNodeId;
+use tree_verdicts::marks;
+use tree_verdicts::nodes;
 
-// Whether the parent is the node at the place `at` or below it: two comparisons of places.
+// Whether the parent is the node at the position `at` or below it: two comparisons of positions.
 fn is_below(l: Links, at: usize, parent: OptionNodeId) -> bool
     requires { ⌜ (at < l .count) × (l .count ≤ 256) ⌝ }
     ensures { λ r. ⌜ r ≡ spec.isBelow l at parent ⌝ }
@@ -23,30 +26,36 @@ fn is_below(l: Links, at: usize, parent: OptionNodeId) -> bool
     let OptionNodeId::Some(h) = parent else {
         return false;
     };
-    let to = links::position(&l.order, l.count, h.0);
-    let e = links::segment_end(&l.depth, l.count, at);
+    let to = link_table::position(&l.order, l.count, h.0);
+    let e = link_table::segment_end(&l.depth, l.count, at);
     (at <= to) & (to < e)
 }
 
 // Last under the new parent, or last of the roots.
 fn move_links(l: Links, at: usize, parent: OptionNodeId) -> Links
-    requires { ⌜ (at < l .count) × (l .count ≤ 256) × (depthsFrom 0 (take (l .count) (l .depth)) ≡ true) × spec.Outside l at parent ⌝ }
+    requires { ⌜
+        (at < l .count)
+        × (l .count ≤ 256)
+        × (depthsFrom 0 (take (l .count) (l .depth)) ≡ true)
+        × spec.Outside l at parent
+        ⌝ }
     ensures { λ r. ⌜ r ≡ spec.moveTo l at parent ⌝ }
 {
     match parent {
-        OptionNodeId::None => link_moves::move_root(l, at),
+        OptionNodeId::None => moves::move_root(l, at),
         OptionNodeId::Some(h) => {
-            let to = links::position(&l.order, l.count, h.0);
-            link_moves::move_last(l, at, to)
+            let to = link_table::position(&l.order, l.count, h.0);
+            moves::move_last(l, at, to)
         }
     }
 }
 
-pub fn reparent(mut t: Tree, id: NodeId, parent: OptionNodeId) -> After
-    ensures { λ r. ⌜ r ≡ step.reparentCall t id parent ⌝ }
+// Inner: the verdict on a move of the node under the parent, or among the roots: 1, 2, 3, 4.
+pub fn verdict(t: Tree, id: NodeId, parent: OptionNodeId) -> Verdict
+    ensures { λ r. ⌜ r ≡ step.reparentVerdict t id parent ⌝ }
 {
-    let node = tree_nodes::of_node(t, id);
-    let v = tree_nodes::of_parent(
+    let node = nodes::of_node(t, id);
+    let v = nodes::of_parent(
         &t.links.order,
         t.links.count,
         &t.slots.generation,
@@ -54,17 +63,34 @@ pub fn reparent(mut t: Tree, id: NodeId, parent: OptionNodeId) -> After
         parent,
     );
     let Verdict::Accepted = v else {
-        return After { answer: v, tree: t };
+        return v;
     };
     let l = t.links;
-    let at = links::position(&l.order, l.count, id.0);
-    let w = tree_state::check(v, !is_below(l, at, parent), Refusal::BelowItself);
-    let Verdict::Accepted = w else {
-        return After { answer: w, tree: t };
-    };
+    let at = link_table::position(&l.order, l.count, id.0);
+    tree_state::check(v, !is_below(l, at, parent), Refusal::BelowItself)
+}
+
+// Inner: the move of the node at the position `at`, as the verdict accepts it.
+pub fn move_node(mut t: Tree, at: usize, id: NodeId, parent: OptionNodeId) -> Tree
+    requires { ⌜ spec.Movable t at (id .0) parent ⌝ }
+    ensures { λ r. ⌜ r ≡ step.reparentTree t (id .0) parent ⌝ }
+{
     let x = id.0 as usize;
+    let l = t.links;
     let m = t.marks;
     t.links = move_links(l, at, parent);
-    t.marks = tree_changes::mark_both(m, x);
-    After { answer: w, tree: t }
+    t.marks = marks::mark_both(m, x);
+    t
+}
+
+pub fn reparent(t: Tree, id: NodeId, parent: OptionNodeId) -> After
+    ensures { λ r. ⌜ r ≡ step.reparentCall t id parent ⌝ }
+{
+    let v = verdict(t, id, parent);
+    let Verdict::Accepted = v else {
+        return After { answer: v, tree: t };
+    };
+    let at = link_table::position(&t.links.order, t.links.count, id.0);
+    let tree = move_node(t, at, id, parent);
+    After { answer: v, tree }
 }

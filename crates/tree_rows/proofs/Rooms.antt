@@ -3,36 +3,29 @@ use Prim.Native.Nat.{ℕ}
 use mathlib.Core.Path.{_≡_, refl}
 use mathlib.Core.List.{List, [], _∷_}
 use lib.ListN.{replicate}
-use lib.Ieee.{Float, round, units, odd, size, span, climb, eq, le, lt, isNan, neg}
-use Rattle.numbers.specs.Number.{minimum, maximum, magnitude, same}
-use Rattle.geometry.specs.Rectangle.{rect, rectEq, ordered, finiteRect, finiteInsets}
-use Rattle.transforms.specs.Transform.{finiteAffine}
-use Rattle.clips.specs.Clips.{constructed, shaped, clipRect, clipRadii, finiteClip, finiteClipRect}
-use Rattle.constructed_clips.specs.Constructed.{asConstructed}
-use Rattle.boxes.specs.Boxes.{aabb}
-use Rattle.cells.specs.Cells.{idAt}
+use lib.Ieee.{Float}
+use Rattle.geometry.specs.Rectangle.{rect}
+use Rattle.index_types.specs.Boxes.{aabb}
+use Rattle.index_types.specs.flat_tables.Tables.{idAt}
 use Rattle.counting.specs.Times.{times, every}
 use Rattle.counting.specs.Lists.{onceBelow}
-use Rattle.forest.specs.Table.{run, segEnd, indexOf, depthsFrom, atDepth}
-use Rattle.links.specs.Links.{splice, addRoot, addLast}
+use Rattle.link_forest.specs.Table.{atDepth}
 use Rattle.index_sound.specs.Sound.{soundOf}
 use Rattle.index_commit.specs.Commit as damage
 use Rattle.index_query.specs.Query as query
-use Rattle.understory_index.specs.Index.{freshIndex, queryRoom}
-use Rattle.box_types.specs.Local.{finiteLocal, stored}
-use Rattle.box_types.specs.declared.OptionNodeId.the-variants as node
-use Rattle.node_tables.specs.Tables.{rectAt, putRect, insetsAt, putInsets, affineAt, putAffine, clipAt, kindOf, edgesFrom, putClip}
-use Rattle.plan.proofs.Rows.{num, id, local, ten, a, b}
+use Rattle.index_state.specs.Index.{freshIndex, queryRoom}
+use Rattle.tree_types.specs.declared.OptionNodeId.the-variants as node
+use Rattle.plan.proofs.Rows.{num, id, ten, a, b}
 use Rattle.tree_state.specs.declared.Tree.{Tree}
 use Rattle.tree_state.specs.declared.Refusal.the-variants as no
 use Rattle.tree_state.specs.declared.Verdict.the-variants as is
-use Rattle.tree_state.specs.Tree.{checkedNext, checked, freshTree, live, localAt}
-use Rattle.tree_state.specs.Sound.{countOf, countBelow, everyOf, slotsRight, nodeRight, entryRight, countsRight, soundTree}
+use Rattle.tree_state.specs.Tree.{freshTree}
 use Rattle.tree_steps.specs.Structure.{insertTree}
 use Rattle.tree_steps.specs.Commit.{rectsInFront}
 use Rattle.tree_steps.specs.Readings.{childrenOf}
-use Rattle.tree_steps.specs.Requests.{idsInFront}
-use Rattle.tree_answers.specs.Answers.{roomIf, childrenRoom}
+use Rattle.tree_steps.specs.Requests.{idsInFront, roomIf}
+use Rattle.tree_readings.specs.answers.Answers.{childrenRoom}
+use Rattle.tree_rows.proofs.Rows as rows
 
 -- five numbers, and five floats
 unfoldable pub room : List ℕ
@@ -75,5 +68,5 @@ pub children : (roomIf is.Accepted (b ∷ []) room ≡ 1 ∷ 1 ∷ 7 ∷ 8 ∷ 9
     × (childrenRoom family a room ≡ room)  -- refused: room for fewer than 256 ids
     × (childrenRoom family (id 0 2) (replicate 513 7) ≡ replicate 513 7)  -- refused: another generation
     × (childrenRoom family a (replicate 513 7) ≡ 1 ∷ 1 ∷ replicate 511 7)
-unfolding roomIf idsInFront room family num id local ten a b insertTree stored freshTree freshIndex checkedNext checked live localAt childrenOf atDepth run segEnd indexOf depthsFrom splice addRoot addLast constructed shaped putRect putInsets putAffine kindOf edgesFrom putClip soundTree slotsRight onceBelow every times soundOf everyOf nodeRight finiteLocal finiteRect finiteInsets finiteAffine finiteClip finiteClipRect clipRect clipRadii asConstructed rectEq ordered rectAt insetsAt affineAt clipAt idAt entryRight countsRight countBelow countOf minimum maximum magnitude same round units odd size span climb neg eq le lt isNan
+unfolding rows.computed roomIf idsInFront room family childrenOf atDepth
 children = (refl, refl, refl, refl, refl)

@@ -1,0 +1,2 @@
+pub mod sound
+pub mod damage

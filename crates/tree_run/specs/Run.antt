@@ -1,14 +1,12 @@
 -- Any list of calls on one tree: clause by clause the definitions that the contracts of the calls cite.
-use Prim.Native.Nat.{ℕ, zero, suc}
-use mathlib.Core.List.{List, [], _∷_}
-use Rattle.boxes.specs.declared.NodeId.{NodeId}
-use Rattle.box_types.specs.declared.NodeFlags.{NodeFlags}
-use Rattle.box_types.specs.declared.OptionNodeId.{OptionNodeId}
-use Rattle.box_types.specs.declared.OptionNodeId.the-variants as node
+use Prim.Native.Nat.{ℕ}
+use Rattle.tree_types.specs.declared.NodeFlags.{NodeFlags}
+use Rattle.tree_types.specs.declared.OptionNodeId.{OptionNodeId}
+use Rattle.tree_types.specs.declared.OptionNodeId.the-variants as node
 use Rattle.tree_state.specs.declared.Tree.{Tree}
 use Rattle.tree_state.specs.declared.Verdict.{Verdict}
 use Rattle.tree_state.specs.declared.Verdict.the-variants as is
-use Rattle.tree_state.specs.Tree.{numberOf, numberIn, placeOf, idAt}
+use Rattle.tree_state.specs.Tree.{numberOf, positionOf, idAt}
 use Rattle.tree_steps.specs.Setters as set
 use Rattle.tree_steps.specs.Structure as structure
 use Rattle.tree_steps.specs.Commit as commit
@@ -56,7 +54,7 @@ verdict t (call.request q asked len) = request.requestVerdict t asked len
 
 unfoldable pub accepted : Tree → Call → Tree
 accepted t (call.insert parent v) = structure.insertTree t parent v
-accepted t (call.remove i) = structure.removeTree t (placeOf t (i .0))
+accepted t (call.remove i) = structure.removeTree t (positionOf t (i .0))
 accepted t (call.reparent i parent) = structure.reparentTree t (i .0) parent
 accepted t (call.set-local-transform i a) = set.setTransform t (i .0) a
 accepted t (call.set-local-clip i c) = set.setClip t (i .0) c

@@ -1,0 +1,4 @@
+pub mod steps
+pub mod transforms
+pub mod boxes
+pub mod levels

@@ -8,28 +8,28 @@ use native.Mathlib.Decide.{decLt, ℕ-discrete}
 use borrow.Author.Tests.{eq-eqb, ne-eqb, lt-ltb, le-ltb, ltb-true}
 use lib.Dec.{eqb, ltb, leb}
 use lib.ListN.{length, getD, take, length-take}
-use Rattle.counting.specs.Times.{one, times, every}
+use Rattle.counting.specs.Times.{tally, times, every}
 use Rattle.counting.specs.Lists.{Tells, onceBelow}
 use Rattle.counting.proofs.Counting.{hit, miss}
 use Rattle.counting.proofs.Kit.{contra, both, at-most, less, equal, every-tells, through}
 use Rattle.counting.proofs.Words.{OnceBelow, once-below-tells}
-use Rattle.forest.specs.Forest.{Forest, pre, dep}
-use Rattle.forest.specs.Table.{depthsFrom}
-use Rattle.forest.proofs.Shape.{shape-exact}
+use Rattle.link_forest.specs.Forest.{Forest, pre, dep}
+use Rattle.link_forest.specs.Table.{depthsFrom}
+use Rattle.link_forest.proofs.Shape.{shape-exact}
 use Rattle.index_sound.specs.Sound.{SoundOf, soundOf}
 use Rattle.index_sound.proofs.Exact as index
 use Rattle.geometry.specs.Rectangle.{rectEq}
-use Rattle.clips.specs.Clips.{constructed}
-use Rattle.constructed_clips.proofs.Constructed.{as-constructed}
-use Rattle.boxes.specs.declared.NodeId.{NodeId}
-use Rattle.box_types.specs.Local.{finiteLocal, known, emptyRect}
-use Rattle.cells.specs.Cells.{idAt}
+use Rattle.geometry_clips.specs.Clips.{constructed}
+use Rattle.geometry_clips.proofs.constructed.Constructed.{as-constructed}
+use Rattle.index_types.specs.declared.NodeId.{NodeId}
+use Rattle.tree_types.specs.Local.{finiteLocal, known, emptyRect}
+use Rattle.index_types.specs.flat_tables.Tables.{idAt}
 use Rattle.tree_state.specs.declared.Tree.{Tree}
 use Rattle.tree_state.specs.Tree as tree
 use Rattle.tree_state.specs.Tree.{liveSlots, isLive, localAt, clipOf, markedAt, transformChangedAt, clipChangedAt, committedAt, keyAt, storedBounds, storedHitBounds, entryMark, isRemoved}
 use Rattle.tree_state.specs.Sound.{Live, Owns, Uncommitted, SoundTree, everyOf, slotsRight, valuesRight, marksRight, sameId, ownsRight, newRight, nodeRight, ownerOf, ownedRight, entryRight, countsRight, soundTree, removedEntries, committedNodes}
 use Rattle.tree_sound.specs.Parts.{Sized}
-use Rattle.sound_nodes.proofs.Walks.{live-by}
+use Rattle.tree_sound.proofs.nodes.Walks.{live-by}
 
 -- ---- more of the kit
 
@@ -74,7 +74,7 @@ pub record SlotsOf (order : List ℕ) (n : ℕ) (free : List ℕ) (m used : ℕ)
 
 module _ (order : List ℕ) (n : ℕ) (free : List ℕ) (m used : ℕ) (lo : length order ≡ 256) (lf : length free ≡ 256) where
   abbrev Share : ℕ → Type 0
-  Share x = times x (take n order) + times x (take m free) ≡ one (ltb x used)
+  Share x = times x (take n order) + times x (take m free) ≡ tally (ltb x used)
 
   abbrev Shares : Type 0
   Shares = (used ≤ 256) × (OnceBelow 256 order n × (OnceBelow 256 free m × ((x : ℕ) → x < 256 → Share x)))
@@ -118,8 +118,8 @@ module _ (order : List ℕ) (n : ℕ) (free : List ℕ) (m used : ℕ) (lo : len
       (both (leb used 256) _ (at-most used 256)
       (both (onceBelow 256 order n) _ (once-below-tells 256 order n (omega arith))
       (both (onceBelow 256 free m) _ (once-below-tells 256 free m (omega arith))
-      (every-tells 256 (λ x. eqb (times x (take n order) + times x (take m free)) (one (ltb x used))) Share
-      (λ x. equal (times x (take n order) + times x (take m free)) (one (ltb x used)))))))
+      (every-tells 256 (λ x. eqb (times x (take n order) + times x (take m free)) (tally (ltb x used))) Share
+      (λ x. equal (times x (take n order) + times x (take m free)) (tally (ltb x used)))))))
 
 -- ---- one live node
 

@@ -1,11 +1,10 @@
 -- Slots beyond what is used are empty: a walk over all 512 entries may stop there.
 use mathlib.Core.Path.{_≡_, refl, sym, _∙_}
 use mathlib.Core.Bool.{Bool, true, false, _&&_}
-use Prim.Native.Nat.{ℕ, zero, suc, _+_, _≤_, _<_}
+use Prim.Native.Nat.{ℕ, zero, suc, _≤_}
 use native.Mathlib.Omega.{arith}
 use native.Mathlib.Decide.{decLt}
-use native.Mathlib.Numerals.{add-one}
-use Rattle.counting.specs.Times.{one, every}
+use Rattle.counting.specs.Times.{every}
 use Rattle.tree_state.specs.Sound.{countBelow}
 
 and-true : (b : Bool) → b && true ≡ b

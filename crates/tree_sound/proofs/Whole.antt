@@ -7,22 +7,22 @@ use native.Mathlib.Omega.{arith}
 use native.Mathlib.Decide.{decLt}
 use lib.Dec.{eqb, ltb, leb}
 use lib.ListN.{length, getD, take}
-use Rattle.counting.specs.Times.{one, times, every}
+use Rattle.counting.specs.Times.{tally, times, every}
 use Rattle.counting.specs.Lists.{onceBelow}
 use Rattle.counting.proofs.Counting.{times-at}
 use Rattle.counting.proofs.Words.{OnceBelow, once-below-tells}
 use Rattle.numbers.proofs.Bools.{and-left, and-right}
-use Rattle.forest.specs.Table.{depthsFrom}
+use Rattle.link_forest.specs.Table.{depthsFrom}
 use Rattle.index_sound.specs.Sound.{SoundOf, soundOf}
 use Rattle.index_sound.proofs.Exact.{decides}
 use Rattle.index_sound.proofs.Every.{every-same}
-use Rattle.box_types.specs.Local.{finiteLocal}
+use Rattle.tree_types.specs.Local.{finiteLocal}
 use Rattle.tree_state.specs.declared.Tree.{Tree}
 use Rattle.tree_state.specs.Tree.{liveSlots, localAt, committedAt, keyAt, idAt, entryMark, isRemoved}
 use Rattle.tree_state.specs.Sound.{countBelow, everyOf, slotsRight, nodeRight, entryRight, ownerOf, countsRight, soundTree, removedEntries, committedNodes}
 use Rattle.tree_sound.specs.Parts.{Low, valuesAt, marksAt, ownsAt, newAt, ownedAt, entryAt}
 use Rattle.tree_sound.proofs.Used.{every-used, below-used}
-use Rattle.sound_nodes.proofs.Walks.{every-alike, every-both, cond-both, live-by}
+use Rattle.tree_sound.proofs.nodes.Walks.{every-alike, every-both, cond-both, live-by}
 
 -- ---- what the slots' test gives to the functions that index by slots
 
@@ -30,7 +30,7 @@ module _ (order : List ℕ) (n : ℕ) (free : List ℕ) (m used : ℕ) (right : 
   slots-once : OnceBelow 256 order n
   unfolding slotsRight
   slots-once =
-      let rest = onceBelow 256 free m && every 256 (λ x. eqb (times x (take n order) + times x (take m free)) (one (ltb x used))) in
+      let rest = onceBelow 256 free m && every 256 (λ x. eqb (times x (take n order) + times x (take m free)) (tally (ltb x used))) in
       let r = and-right (leb used 256) (onceBelow 256 order n && rest) right in
       once-below-tells 256 order n (omega arith) .0 (and-left (onceBelow 256 order n) rest r)
 

@@ -1,9 +1,9 @@
 // What the answers add to a phase's sum, which wraps. A refusal adds nothing, so a sum tells it.
-use boxes::NodeId;
-use tree_answers::AnswerBool;
+use index_types::NodeId;
 use tree_commit::Committed;
 use tree_insert::Inserted;
 use tree_listings::Listed;
+use tree_readings::answers::AnswerBool;
 use tree_state::Verdict;
 use tree_taps::Tapped;
 

@@ -1,10 +1,10 @@
 // Requests and a reading: the tree stays.
 use crate::answers;
 use crate::work;
-use box_types::NodeFlags;
-use box_types::QueryFilter;
-use boxes::NodeId;
+use index_types::NodeId;
 use tree_state::Tree;
+use tree_types::NodeFlags;
+use tree_types::QueryFilter;
 
 fn filter() -> QueryFilter {
     QueryFilter {

@@ -1,7 +1,7 @@
 // Calls that change the tree.
 use crate::answers;
 use crate::work;
-use boxes::NodeId;
+use index_types::NodeId;
 use tree_state::Tree;
 
 pub(crate) struct Load {

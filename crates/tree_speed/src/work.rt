@@ -1,13 +1,13 @@
 // The list: boxes 15 wide, each node with eight children, moved by its number. All numbers are exact.
-use box_types::LocalNode;
-use box_types::NodeFlags;
-use box_types::OptionNodeId;
-use boxes::NodeId;
-use clips::clip::Clip;
+use geometry::affine::Affine;
 use geometry::insets::Insets;
 use geometry::point::Point;
 use geometry::rect::Rect;
-use transforms::affine::Affine;
+use geometry_clips::clip::Clip;
+use index_types::NodeId;
+use tree_types::LocalNode;
+use tree_types::NodeFlags;
+use tree_types::OptionNodeId;
 
 pub(crate) fn parent(i: u32) -> OptionNodeId {
     if i == 0 {

@@ -1,2 +1,4 @@
+pub mod Locals
 pub mod Tree
 pub mod Sound
+pub mod Lent

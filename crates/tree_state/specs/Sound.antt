@@ -7,17 +7,16 @@ use mathlib.Core.List.{List, [], _∷_}
 use lib.Dec.{eqb, ltb, leb}
 use lib.ListN.{getD, take}
 use Rattle.geometry.specs.Rectangle.{rectEq}
-use Rattle.clips.specs.Clips.{constructed}
-use Rattle.constructed_clips.specs.Constructed.{asConstructed}
-use Rattle.boxes.specs.declared.NodeId.{NodeId}
-use Rattle.box_types.specs.Local.{finiteLocal, known, emptyRect}
-use Rattle.cells.specs.Cells.{idAt}
-use Rattle.counting.specs.Times.{one, times, every}
+use Rattle.geometry_clips.specs.Clips.{constructed}
+use Rattle.geometry_clips.specs.constructed.Constructed.{asConstructed}
+use Rattle.index_types.specs.declared.NodeId.{NodeId}
+use Rattle.tree_types.specs.Local.{finiteLocal, known, emptyRect}
+use Rattle.index_types.specs.flat_tables.Tables.{idAt}
+use Rattle.counting.specs.Times.{tally, times, every}
 use Rattle.counting.specs.Lists.{onceBelow}
-use Rattle.forest.specs.Forest.{Forest, pre, dep}
-use Rattle.forest.specs.Table.{depthsFrom}
+use Rattle.link_forest.specs.Forest.{Forest, pre, dep}
+use Rattle.link_forest.specs.Table.{depthsFrom}
 use Rattle.index_sound.specs.Sound.{SoundOf, soundOf}
-use Rattle.understory_index.specs.declared.Index.{Index}
 use Rattle.tree_state.specs.declared.Tree.{Tree}
 use Rattle.tree_state.specs.Tree as tree
 use Rattle.tree_state.specs.Tree.{liveSlots, isLive, localAt, clipOf, markedAt, transformChangedAt, clipChangedAt, committedAt, keyAt, storedBounds, storedHitBounds, entryMark, isRemoved}
@@ -28,11 +27,11 @@ Live t x = isLive t x ≡ true
 -- how many of these slots, or of the numbers below n, pass the test
 unfoldable pub countOf : (ℕ → Bool) → List ℕ → ℕ
 countOf p [] = 0
-countOf p (x ∷ xs) = one (p x) + countOf p xs
+countOf p (x ∷ xs) = tally (p x) + countOf p xs
 
 unfoldable pub countBelow : ℕ → (ℕ → Bool) → ℕ
 countBelow zero p = 0
-countBelow (suc n) p = countBelow n p + one (p n)
+countBelow (suc n) p = countBelow n p + tally (p n)
 
 -- entries that are marked removed, and committed nodes
 abbrev pub removedEntries : Tree → ℕ
@@ -99,7 +98,7 @@ unfoldable pub slotsRight : List ℕ → ℕ → List ℕ → ℕ → ℕ → Bo
 slotsRight order n free m used =
     leb used 256
     && (onceBelow 256 order n
-    && (onceBelow 256 free m && every 256 (λ x. eqb (times x (take n order) + times x (take m free)) (one (ltb x used)))))
+    && (onceBelow 256 free m && every 256 (λ x. eqb (times x (take n order) + times x (take m free)) (tally (ltb x used)))))
 
 -- one live node: its values, its marks, and its entry or that it has none yet
 abbrev pub valuesRight : Tree → ℕ → Bool

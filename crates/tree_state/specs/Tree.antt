@@ -1,35 +1,26 @@
 -- The tree's record: what a slot's node is, read off the tables, and what calls for a commit.
-use Prim.Native.Nat.{ℕ, zero, suc, _+_}
-use mathlib.Core.Bool.{Bool, true, false, not, _&&_, _||_, cond}
+use Prim.Native.Nat.{ℕ, zero, suc}
+use mathlib.Core.Bool.{Bool, true, false, _&&_, _||_}
 use mathlib.Core.List.{List, [], _∷_}
 use lib.Dec.{eqb, ltb, leb}
-use lib.ListN.{length, getD, take, set, replicate}
-use lib.IntN.{ℤ, pos}
-use lib.Ieee.{Float}
+use lib.ListN.{getD, take, replicate}
+use lib.IntN.{pos}
 use Rattle.numbers.specs.Rounded as float
 use Rattle.geometry.specs.declared.rect.Rect.{Rect}
-use Rattle.clips.specs.declared.clip.Clip.{Clip}
-use Rattle.boxes.specs.declared.NodeId.{NodeId}
-use Rattle.boxes.specs.declared.Key.{Key}
-use Rattle.box_types.specs.declared.LocalNode.{LocalNode}
-use Rattle.box_types.specs.Local.{flags}
-use Rattle.node_tables.specs.Tables.{rectAt, insetsAt, affineAt, clipAt, clipRectAt}
-use Rattle.worlds.specs.declared.Placed.{Placed}
-use Rattle.forest.specs.Table.{indexOf}
-use Rattle.links.specs.declared.Links.{Links}
-use Rattle.understory_index.specs.declared.Index.{Index}
-use Rattle.understory_index.specs.Index.{freshIndex}
-use Rattle.tree_state.specs.declared.Slots.{Slots}
-use Rattle.tree_state.specs.declared.Locals.{Locals}
-use Rattle.tree_state.specs.declared.Worlds.{Worlds}
-use Rattle.tree_state.specs.declared.Marks.{Marks}
-use Rattle.tree_state.specs.declared.Keys.{Keys}
-use Rattle.tree_state.specs.declared.Pending.{Pending}
+use Rattle.geometry_clips.specs.declared.clip.Clip.{Clip}
+use Rattle.index_types.specs.declared.NodeId.{NodeId}
+use Rattle.index_types.specs.declared.Key.{Key}
+use Rattle.tree_types.specs.declared.LocalNode.{LocalNode}
+use Rattle.node_tables.specs.Tables.{rectAt, affineAt, clipAt, clipRectAt}
+use Rattle.tree_worlds.specs.declared.Placed.{Placed}
+use Rattle.link_forest.specs.Table.{indexOf}
+use Rattle.index_state.specs.Index.{freshIndex}
 use Rattle.tree_state.specs.declared.Tree.{Tree}
 use Rattle.tree_state.specs.declared.Refusal.{Refusal}
 use Rattle.tree_state.specs.declared.Refusal.the-variants as no
 use Rattle.tree_state.specs.declared.Verdict.{Verdict}
 use Rattle.tree_state.specs.declared.Verdict.the-variants as is
+use Rattle.tree_state.specs.Locals.{localIn}
 
 -- ---- refusals
 
@@ -96,12 +87,12 @@ freshTree =
 abbrev pub liveSlots : Tree → List ℕ
 liveSlots t = take (t .links .count) (t .links .order)
 
-abbrev pub placeOf : Tree → ℕ → ℕ
-placeOf t x = indexOf x (liveSlots t)
+abbrev pub positionOf : Tree → ℕ → ℕ
+positionOf t x = indexOf x (liveSlots t)
 
 -- a slot that a live node has
 abbrev pub isLive : Tree → ℕ → Bool
-isLive t x = ltb (placeOf t x) (t .links .count)
+isLive t x = ltb (positionOf t x) (t .links .count)
 
 abbrev pub generationAt : Tree → ℕ → ℕ
 generationAt t x = getD (t .slots .generation) x 0
@@ -117,15 +108,7 @@ abbrev pub clipOf : Tree → ℕ → Clip
 clipOf t x = clipAt (getD (t .locals .kind) x 0) (t .locals .clip) x
 
 unfoldable pub localAt : Tree → ℕ → LocalNode
-localAt t x =
-    record {
-      «local_bounds» = rectAt (t .locals .bounds) x;
-      «hit_slop» = insetsAt (t .locals .slop) x;
-      «local_transform» = affineAt (t .locals .transform) x;
-      «local_clip» = clipOf t x;
-      «z_index» = getD (t .locals .level) x (pos 0);
-      flags = flags (getD (t .locals .flags) x 0);
-    }
+localAt t x = localIn (t .locals) x
 
 abbrev pub markedAt : Tree → ℕ → Bool
 markedAt t x = getD (t .marks .marked) x false

@@ -1,9 +1,9 @@
 // The box tree by value: its tables in small groups, tree.rs's `Tree` with `Node`, `WorldNode` and `Dirty` taken apart by field. A table has a
-// place for each of 256 slots; links are a table in pre-order (crate `links`).
+// place for each of 256 slots; links are a table in pre-order (crate `link_table`).
 ghost use mathlib.Core.Path.{_≡_};
 ghost use Rattle.tree_state.specs.Tree as spec;
-use links::Links;
-use understory_index::Index;
+use index_state::Index;
+use link_table::Links;
 
 // Generations of the used slots, and the free list, the last freed at its end.
 pub struct Slots {
@@ -133,7 +133,7 @@ pub fn fresh() -> Tree
         rects: [0.0; 1024],
         count: 0,
     };
-    let index = understory_index::fresh();
+    let index = index_state::fresh();
     Tree {
         slots,
         links,

@@ -1,71 +1,62 @@
--- The commit on the tree's record: the places to visit, the rework of one place over the stored records of its parent, and the index.
-use Prim.Native.Nat.{ℕ, zero, suc, _+_, _-_}
+-- The commit on the tree's record: the positions to visit, the rework of one position over the stored records of its parent, and the index.
+use Prim.Native.Nat.{ℕ, zero, suc, _-_}
 use mathlib.Core.Bool.{Bool, true, false, not, _&&_, _||_, cond}
-use mathlib.Core.List.{List, [], _∷_, _++_, reverse, map}
-use lib.Dec.{eqb, ltb, leb}
+use mathlib.Core.List.{List, [], _∷_, _++_, reverse}
+use lib.Dec.{ltb}
 use lib.ListN.{length, getD, set, take, drop, replicate}
 use lib.Ieee.{Float}
 use Rattle.geometry.specs.declared.rect.Rect.{Rect}
 use Rattle.geometry.specs.Rectangle.{rectEq, hasArea}
-use Rattle.boxes.specs.declared.Aabb2D.{Aabb2D}
-use Rattle.box_types.specs.Local.{rectToAabb}
+use Rattle.index_types.specs.declared.Aabb2D.{Aabb2D}
+use Rattle.tree_types.specs.Local.{rectToAabb}
 use Rattle.node_tables.specs.Tables.{rectAt, putRect, insetsAt, affineAt, putAffine, ofRect, isThere, putClipRect}
-use Rattle.worlds.specs.declared.Placed.{Placed}
-use Rattle.worlds.specs.World.{atRoot, placed, worldBox, hitBox}
-use Rattle.forest.specs.Table.{lessDeep}
-use Rattle.links.specs.Links.{endOf}
-use Rattle.understory_index.specs.declared.Index.{Index}
-use Rattle.understory_index.specs.Index as index
+use Rattle.tree_worlds.specs.declared.Placed.{Placed}
+use Rattle.tree_worlds.specs.World.{atRoot, placed, worldBox, hitBox}
+use Rattle.link_forest.specs.Table.{lessDeep}
+use Rattle.link_table.specs.Links.{endOf}
+use Rattle.index_state.specs.declared.Index.{Index}
+use Rattle.index_state.specs.Index as index
 use Rattle.tree_state.specs.declared.Worlds.{Worlds}
 use Rattle.tree_state.specs.declared.Marks.{Marks}
 use Rattle.tree_state.specs.declared.Keys.{Keys}
-use Rattle.tree_state.specs.declared.Pending.{Pending}
 use Rattle.tree_state.specs.declared.Tree.{Tree}
 use Rattle.tree_state.specs.declared.Refusal.the-variants as no
 use Rattle.tree_state.specs.declared.Verdict.{Verdict}
-use Rattle.tree_state.specs.Tree.{isLive, placeOf, generationAt, idAt, clipOf, markedAt, transformChangedAt, clipChangedAt, committedAt, keyAt, storedPlace, storedBounds, storedHitBounds, anyOf, needsCommit, checked}
+use Rattle.tree_state.specs.Tree.{positionOf, idAt, clipOf, markedAt, transformChangedAt, clipChangedAt, committedAt, keyAt, storedPlace, storedBounds, storedHitBounds, anyOf, needsCommit, checked}
 use Rattle.tree_steps.specs.Setters.{held}
+use Rattle.tree_steps.specs.SlotOrder.{slotsBelow}
 
 -- 1, 8: under 512 rectangles, of four numbers
 abbrev pub commitVerdict : Tree → ℕ → Verdict
 commitVerdict t len = checked (held t) (not (ltb len 2048)) no.ShortRoom
 
--- ---- the slots above a place, the parent first: going back through the table, each place that is less deep
+-- ---- the slots above a position, the parent first: going back through the table, each position that is less deep
 
 unfoldable pub ancestors : Tree → ℕ → List ℕ
 ancestors t i = lessDeep (getD (t .links .depth) i 0) (reverse (take i (t .links .order))) (reverse (take i (t .links .depth)))
 
--- ---- the marked live slots, by generation and then index
+-- ---- the starts: the marked live slots, by generation and then index
 
 abbrev pub changedAt : Tree → ℕ → Bool
 changedAt t x = markedAt t x && (transformChangedAt t x || clipChangedAt t x)
 
-abbrev pub sooner : Tree → ℕ → ℕ → Bool
-sooner t x y = ltb (generationAt t x) (generationAt t y) || (eqb (generationAt t x) (generationAt t y) && ltb x y)
-
-unfoldable pub putIn : Tree → ℕ → List ℕ → List ℕ
-putIn t x [] = x ∷ []
-putIn t x (y ∷ ys) = cond (sooner t x y) (x ∷ y ∷ ys) (y ∷ putIn t x ys)
-
--- of the slots below n, taken in rising order
-unfoldable pub startsBelow : Tree → ℕ → List ℕ
-startsBelow t zero = []
-startsBelow t (suc n) = cond (isLive t n && markedAt t n) (putIn t n (startsBelow t n)) (startsBelow t n)
+abbrev pub startsBelow : Tree → ℕ → List ℕ
+startsBelow t n = slotsBelow (markedAt t) t n
 
 abbrev pub startsOf : Tree → List ℕ
 startsOf t = startsBelow t 256
 
--- ---- the places that each start has walked: none where it is covered, its segment where it counts as changed, else its own
+-- ---- the positions that each start has walked: none where it is covered, its segment where it counts as changed, else its own
 
-unfoldable pub placesFrom : ℕ → ℕ → List ℕ
-placesFrom i zero = []
-placesFrom i (suc n) = i ∷ placesFrom (suc i) n
+unfoldable pub positionsFrom : ℕ → ℕ → List ℕ
+positionsFrom i zero = []
+positionsFrom i (suc n) = i ∷ positionsFrom (suc i) n
 
 abbrev pub walked : Tree → ℕ → List ℕ
 walked t x =
-    let i = placeOf t x in
+    let i = positionOf t x in
     cond (anyOf (changedAt t) (ancestors t i)) []
-    (cond (changedAt t x) (placesFrom i (endOf (t .links) i - i)) (i ∷ []))
+    (cond (changedAt t x) (positionsFrom i (endOf (t .links) i - i)) (i ∷ []))
 
 unfoldable pub walkAll : Tree → List ℕ → List ℕ
 walkAll t [] = []
@@ -74,7 +65,7 @@ walkAll t (x ∷ xs) = walked t x ++ walkAll t xs
 abbrev pub visitsOf : Tree → List ℕ
 visitsOf t = walkAll t (startsOf t)
 
--- ---- the rework of one place
+-- ---- the rework of one position
 
 -- what its parent hands down, as stored
 unfoldable pub handedDown : Tree → List ℕ → Placed

@@ -1,18 +1,18 @@
 -- The setters on the tree's record: the refusal that applies, in the order of the numbers, and what an accepted call leaves.
 use Prim.Native.Nat.{ℕ}
 use mathlib.Core.Bool.{Bool, true, false}
-use lib.ListN.{getD, set}
+use lib.ListN.{set}
 use lib.IntN.{ℤ}
 use Rattle.geometry.specs.declared.rect.Rect.{Rect}
-use Rattle.geometry_parts.specs.declared.insets.Insets.{Insets}
+use Rattle.geometry.specs.declared.insets.Insets.{Insets}
 use Rattle.geometry.specs.Rectangle.{rectEq, insetsEq, finiteRect, finiteInsets}
-use Rattle.transforms.specs.declared.affine.Affine.{Affine}
-use Rattle.transforms.specs.Transform.{affineEq, finiteAffine}
-use Rattle.clips.specs.declared.clip.Clip.{Clip}
-use Rattle.clips.specs.Clips.{constructed, clipEq, finiteClip}
-use Rattle.boxes.specs.declared.NodeId.{NodeId}
-use Rattle.box_types.specs.declared.NodeFlags.{NodeFlags}
-use Rattle.box_types.specs.Local.{known}
+use Rattle.geometry.specs.declared.affine.Affine.{Affine}
+use Rattle.geometry.specs.Transform.{affineEq, finiteAffine}
+use Rattle.geometry_clips.specs.declared.clip.Clip.{Clip}
+use Rattle.geometry_clips.specs.Clips.{constructed, clipEq, finiteClip}
+use Rattle.index_types.specs.declared.NodeId.{NodeId}
+use Rattle.tree_types.specs.declared.NodeFlags.{NodeFlags}
+use Rattle.tree_types.specs.Local.{known}
 use Rattle.node_tables.specs.Tables.{rectAt, putRect, insetsAt, putInsets, affineAt, putAffine, kindOf, putClip}
 use Rattle.tree_state.specs.declared.Locals.{Locals}
 use Rattle.tree_state.specs.declared.Marks.{Marks}
@@ -21,6 +21,7 @@ use Rattle.tree_state.specs.declared.After.{After}
 use Rattle.tree_state.specs.declared.Refusal.the-variants as no
 use Rattle.tree_state.specs.declared.Verdict.{Verdict}
 use Rattle.tree_state.specs.declared.Verdict.the-variants as is
+use Rattle.tree_state.specs.Locals as locals
 use Rattle.tree_state.specs.Tree.{live, clipOf, checked}
 use Rattle.tree_state.specs.Sound.{soundTree}
 
@@ -67,28 +68,22 @@ abbrev pub markBoth : Marks → ℕ → Marks
 markBoth m x = record { marked = set (m .marked) x true; transform = set (m .transform) x true; clip = set (m .clip) x true }
 
 abbrev pub storeTransform : Locals → ℕ → Affine → Locals
-storeTransform l x a =
-    record { bounds = l .bounds; slop = l .slop; transform = putAffine (l .transform) x a; kind = l .kind; clip = l .clip; level = l .level; flags = l .flags }
+storeTransform l x a = locals.withTransform (putAffine (l .transform) x a) l
 
 abbrev pub storeClip : Locals → ℕ → Clip → Locals
-storeClip l x c =
-    record { bounds = l .bounds; slop = l .slop; transform = l .transform; kind = set (l .kind) x (kindOf c); clip = putClip (l .clip) x c; level = l .level; flags = l .flags }
+storeClip l x c = locals.withKind (set (l .kind) x (kindOf c)) (locals.withClip (putClip (l .clip) x c) l)
 
 abbrev pub storeBounds : Locals → ℕ → Rect → Locals
-storeBounds l x r =
-    record { bounds = putRect (l .bounds) x r; slop = l .slop; transform = l .transform; kind = l .kind; clip = l .clip; level = l .level; flags = l .flags }
+storeBounds l x r = locals.withBounds (putRect (l .bounds) x r) l
 
 abbrev pub storeSlop : Locals → ℕ → Insets → Locals
-storeSlop l x s =
-    record { bounds = l .bounds; slop = putInsets (l .slop) x s; transform = l .transform; kind = l .kind; clip = l .clip; level = l .level; flags = l .flags }
+storeSlop l x s = locals.withSlop (putInsets (l .slop) x s) l
 
 abbrev pub storeLevel : Locals → ℕ → ℤ → Locals
-storeLevel l x z =
-    record { bounds = l .bounds; slop = l .slop; transform = l .transform; kind = l .kind; clip = l .clip; level = set (l .level) x z; flags = l .flags }
+storeLevel l x z = locals.withLevel (set (l .level) x z) l
 
 abbrev pub storeFlags : Locals → ℕ → NodeFlags → Locals
-storeFlags l x f =
-    record { bounds = l .bounds; slop = l .slop; transform = l .transform; kind = l .kind; clip = l .clip; level = l .level; flags = set (l .flags) x (f .0) }
+storeFlags l x f = locals.withFlags (set (l .flags) x (f .0)) l
 
 -- "Setters compare as numbers": an equal value leaves the tree as it is
 abbrev pub unless : Bool → Tree → Tree → Tree

@@ -3,20 +3,20 @@ use Prim.Native.Nat.{ℕ, _+_, _-_}
 use mathlib.Core.Bool.{Bool, true, false, not, _&&_, cond}
 use mathlib.Core.List.{List, [], _∷_}
 use lib.Dec.{eqb, ltb, leb}
-use lib.ListN.{getD, set, take}
+use lib.ListN.{getD, set}
 use Rattle.geometry.specs.declared.rect.Rect.{Rect}
 use Rattle.geometry.specs.Rectangle.{hasArea}
-use Rattle.boxes.specs.declared.NodeId.{NodeId}
-use Rattle.box_types.specs.declared.LocalNode.{LocalNode}
-use Rattle.box_types.specs.declared.OptionNodeId.{OptionNodeId}
-use Rattle.box_types.specs.declared.OptionNodeId.the-variants as node
-use Rattle.box_types.specs.Local.{finiteLocal, known, stored, emptyRect}
+use Rattle.index_types.specs.declared.NodeId.{NodeId}
+use Rattle.tree_types.specs.declared.LocalNode.{LocalNode}
+use Rattle.tree_types.specs.declared.OptionNodeId.{OptionNodeId}
+use Rattle.tree_types.specs.declared.OptionNodeId.the-variants as node
+use Rattle.tree_types.specs.Local.{finiteLocal, known, stored, emptyRect}
 use Rattle.node_tables.specs.Tables.{putRect, putInsets, putAffine, kindOf, putClip}
-use Rattle.forest.specs.Table.{postOf}
-use Rattle.links.specs.declared.Links.{Links}
-use Rattle.links.specs.Links.{endOf, part, addRoot, addLast, cutTree, moveLast, moveRoot}
-use Rattle.understory_index.specs.declared.Index.{Index}
-use Rattle.understory_index.specs.Index.{removeOf}
+use Rattle.link_forest.specs.Table.{postOf}
+use Rattle.link_table.specs.declared.Links.{Links}
+use Rattle.link_table.specs.Links.{endOf, between, addRoot, addLast, cutTree, moveLast, moveRoot}
+use Rattle.index_state.specs.declared.Index.{Index}
+use Rattle.index_state.specs.Index.{removeOf}
 use Rattle.tree_state.specs.declared.Slots.{Slots}
 use Rattle.tree_state.specs.declared.Locals.{Locals}
 use Rattle.tree_state.specs.declared.Worlds.{Worlds}
@@ -25,7 +25,7 @@ use Rattle.tree_state.specs.declared.Pending.{Pending}
 use Rattle.tree_state.specs.declared.Tree.{Tree}
 use Rattle.tree_state.specs.declared.Refusal.the-variants as no
 use Rattle.tree_state.specs.declared.Verdict.{Verdict}
-use Rattle.tree_state.specs.Tree.{placeOf, generationAt, live, committedAt, keyAt, storedBounds, checked}
+use Rattle.tree_state.specs.Tree.{positionOf, live, committedAt, keyAt, storedBounds, checked}
 use Rattle.tree_state.specs.declared.After.{After}
 use Rattle.tree_steps.specs.Setters.{held, ofNode, after, markBoth}
 
@@ -35,10 +35,10 @@ abbrev pub parentLive : Tree → OptionNodeId → Bool
 parentLive t node.None = true
 parentLive t (node.Some h) = live t h
 
--- the place of a node that is at or below the node at place i: two comparisons of places
+-- the position of a node that is at or below the node at position i: two comparisons of positions
 abbrev pub atOrBelow : Tree → ℕ → OptionNodeId → Bool
 atOrBelow t i node.None = false
-atOrBelow t i (node.Some h) = leb i (placeOf t (h .0)) && ltb (placeOf t (h .0)) (endOf (t .links) i)
+atOrBelow t i (node.Some h) = leb i (positionOf t (h .0)) && ltb (positionOf t (h .0)) (endOf (t .links) i)
 
 -- 1, 3, 5, 6, 9
 abbrev pub insertVerdict : Tree → OptionNodeId → LocalNode → Verdict
@@ -50,7 +50,7 @@ insertVerdict t parent v =
 -- 1, 2, 3, 4
 abbrev pub reparentVerdict : Tree → NodeId → OptionNodeId → Verdict
 reparentVerdict t i parent =
-    checked (checked (ofNode t i) (parentLive t parent) no.DeadParent) (not (atOrBelow t (placeOf t (i .0)) parent)) no.BelowItself
+    checked (checked (ofNode t i) (parentLive t parent) no.DeadParent) (not (atOrBelow t (positionOf t (i .0)) parent)) no.BelowItself
 
 -- ---- insert: "the last freed slot, generation one higher (saturating, as in Rust), else the next unused slot, generation 1"
 
@@ -77,7 +77,7 @@ takeSlot s =
 
 abbrev pub linkNew : Tree → OptionNodeId → ℕ → Links
 linkNew t node.None x = addRoot (t .links) x
-linkNew t (node.Some h) x = addLast (t .links) (placeOf t (h .0)) x
+linkNew t (node.Some h) x = addLast (t .links) (positionOf t (h .0)) x
 
 abbrev pub storeLocal : Locals → ℕ → LocalNode → Locals
 storeLocal l x v =
@@ -155,9 +155,9 @@ abbrev pub withLinks : Tree → Links → Tree
 withLinks t l =
     record { slots = t .slots; links = l; locals = t .locals; worlds = t .worlds; marks = t .marks; keys = t .keys; pending = t .pending; index = t .index }
 
--- the slots of the subtree at place i, children first
+-- the slots of the subtree at position i, children first
 abbrev pub subtreeAt : Links → ℕ → List ℕ
-subtreeAt l i = postOf (part i (endOf l i) (l .order)) (part i (endOf l i) (l .depth))
+subtreeAt l i = postOf (between i (endOf l i) (l .order)) (between i (endOf l i) (l .depth))
 
 unfoldable pub removeTree : Tree → ℕ → Tree
 removeTree t i = withLinks (removeAll t (subtreeAt (t .links) i)) (cutTree (t .links) i)
@@ -166,13 +166,13 @@ removeTree t i = withLinks (removeAll t (subtreeAt (t .links) i)) (cutTree (t .l
 
 abbrev pub moveLinks : Tree → ℕ → OptionNodeId → Links
 moveLinks t i node.None = moveRoot (t .links) i
-moveLinks t i (node.Some h) = moveLast (t .links) i (placeOf t (h .0))
+moveLinks t i (node.Some h) = moveLast (t .links) i (positionOf t (h .0))
 
 unfoldable pub reparentTree : Tree → ℕ → OptionNodeId → Tree
 reparentTree t x parent =
     record {
       slots = t .slots;
-      links = moveLinks t (placeOf t x) parent;
+      links = moveLinks t (positionOf t x) parent;
       locals = t .locals;
       worlds = t .worlds;
       marks = markBoth (t .marks) x;
@@ -184,7 +184,7 @@ reparentTree t x parent =
 -- ---- the calls: what each answers, and the tree after it
 
 abbrev pub removeCall : Tree → NodeId → After
-removeCall t i = after (ofNode t i) (removeTree t (placeOf t (i .0))) t
+removeCall t i = after (ofNode t i) (removeTree t (positionOf t (i .0))) t
 
 abbrev pub reparentCall : Tree → NodeId → OptionNodeId → After
 reparentCall t i parent = after (reparentVerdict t i parent) (reparentTree t (i .0) parent) t

@@ -3,14 +3,14 @@ use mathlib.Core.Path.{_≡_, refl}
 use mathlib.Core.List.{List}
 use Prim.Native.Nat.{ℕ}
 use lib.ListN.{length}
-use Rattle.boxes.specs.declared.NodeId.{NodeId}
+use Rattle.index_types.specs.declared.NodeId.{NodeId}
 use Rattle.tree_state.specs.declared.Tree.{Tree}
 use Rattle.tree_state.specs.declared.Refusal.{Refusal}
 use Rattle.tree_state.specs.declared.Verdict.{Verdict}
 use Rattle.tree_state.specs.declared.Verdict.the-variants as is
 use Rattle.tree_state.specs.Tree.{idAt}
 use Rattle.tree_steps.specs.Requests.{Best, nobody, best, pathTo, pathOf, idsInFront}
-use Rattle.tree_listings.specs.Listings.{roomIf}
+use Rattle.tree_steps.specs.Requests.{roomIf}
 use Rattle.tree_taps.specs.declared.Tapped.the-variants as tapped
 use Rattle.tree_taps.specs.Taps.{tappedIf}
 

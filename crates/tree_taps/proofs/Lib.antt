@@ -1,3 +1,2 @@
-pub mod Climb
 pub mod Tap
 pub mod Answers

@@ -1,1 +1,5 @@
+pub mod order
+pub mod fine
+pub mod candidates
+pub mod paths
 pub mod Taps

@@ -2,21 +2,19 @@
 use mathlib.Core.List.{List}
 use Prim.Native.Nat.{ℕ}
 use lib.ListN.{length}
-use Rattle.geometry_parts.specs.declared.point.Point.{Point}
-use Rattle.box_types.specs.declared.NodeFlags.{NodeFlags}
+use Rattle.geometry.specs.declared.point.Point.{Point}
+use Rattle.tree_types.specs.declared.NodeFlags.{NodeFlags}
 use Rattle.tree_state.specs.declared.Tree.{Tree}
 use Rattle.tree_state.specs.declared.Verdict.{Verdict}
 use Rattle.tree_state.specs.declared.Verdict.the-variants as is
 use Rattle.tree_state.specs.Tree.{idAt}
 use Rattle.tree_steps.specs.Requests as request
 use Rattle.tree_steps.specs.Requests.{Best, nobody, best, pathTo}
-use Rattle.tree_listings.specs.Listings.{roomIf}
 use Rattle.tree_taps.specs.declared.Tapped.{Tapped}
 use Rattle.tree_taps.specs.declared.Tapped.the-variants as tapped
-pub use Rattle.tap_candidates.specs.Candidates.{Shown}
-unfoldable pub use Rattle.tap_candidates.specs.Candidates.{bestOf}
-pub use Rattle.tap_paths.specs.Paths.{idIn}
-unfoldable pub use Rattle.tap_paths.specs.Paths.{pathAt}
+pub use Rattle.tree_taps.specs.candidates.Candidates.{Shown}
+unfoldable pub use Rattle.tree_taps.specs.candidates.Candidates.{bestOf}
+unfoldable pub use Rattle.tree_taps.specs.paths.Paths.{pathAt}
 
 -- the id, and how many ids stand in front of the room: the path from the root
 abbrev pub hitOf : Tree → Best → Tapped
@@ -33,4 +31,4 @@ abbrev pub tapCall : Tree → NodeFlags → Point → ℕ → Tapped
 tapCall t asked pt len = tappedIf (request.requestVerdict t asked len) t (request.hitNode t asked pt)
 
 abbrev pub tapRoom : Tree → NodeFlags → Point → List ℕ → List ℕ
-tapRoom t asked pt room = roomIf (request.requestVerdict t asked (length room)) (request.pathOf t (request.hitNode t asked pt)) room
+tapRoom t asked pt room = request.roomIf (request.requestVerdict t asked (length room)) (request.pathOf t (request.hitNode t asked pt)) room

@@ -1,14 +1,21 @@
 // Taps (tree.rs: hit_test_point, path_to_root): the strongest node that the point reaches, and its path from the root in lent room.
+pub mod candidates; // the strongest of the candidates
+pub mod fine; // the test of a node itself
+pub mod order; // which of two is the stronger
+pub mod paths; // the path from the root
+
 ghost use mathlib.Core.Path.{_≡_};
 ghost use lib.ListN.{length};
 ghost use Rattle.tree_taps.specs.Taps as spec;
-use box_types::QueryFilter;
-use boxes::NodeId;
+pub use crate::candidates::strongest;
 use geometry::point::Point;
-pub use tap_candidates::strongest;
+use index_types::NodeId;
 use tree_state::Refusal;
 use tree_state::Tree;
 use tree_state::Verdict;
+use tree_types::QueryFilter;
+use tree_verdicts::nodes;
+use tree_verdicts::requests;
 
 // What a tap answers: the node, and how many ids stand in front of the room, its path from the root.
 pub enum Tapped {
@@ -24,7 +31,7 @@ pub fn hit_test_point(t: Tree, point: Point, filter: QueryFilter, room: &mut [u3
 {
     let asked = filter.required_flags;
     let len = room.len();
-    let v = tree_verdict::verdict(
+    let fresh = requests::asked_verdict(
         &t.links.order,
         &t.links.depth,
         &t.slots.generation,
@@ -56,8 +63,8 @@ pub fn hit_test_point(t: Tree, point: Point, filter: QueryFilter, room: &mut [u3
         t.index.queued,
         t.index.used,
         asked,
-        len,
     );
+    let v = requests::room_verdict(fresh, len);
     if let Verdict::Refused(r) = v {
         return Tapped::Refused(r);
     }
@@ -85,9 +92,9 @@ pub fn hit_test_point(t: Tree, point: Point, filter: QueryFilter, room: &mut [u3
         return Tapped::Nothing;
     }
     let x = best as u32;
-    let at = links::position(&t.links.order, t.links.count, x);
-    let own = tap_paths::id_of(&t.slots.generation, x);
-    let deep = tap_paths::write_path(
+    let at = link_table::position(&t.links.order, t.links.count, x);
+    let own = nodes::id_of(&t.slots.generation, x);
+    let deep = paths::write_path(
         &t.links.order,
         &t.links.depth,
         &t.slots.generation,

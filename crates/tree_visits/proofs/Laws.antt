@@ -1,4 +1,4 @@
--- The places that a commit visits: none twice, and only what is marked or below what counts as changed.
+-- The positions that a commit visits: none twice, and only what is marked or below what counts as changed.
 use Prim.Native.Nat.{ℕ, _+_, _≤_, _<_}
 use mathlib.Core.Path.{_≡_, refl, subst}
 use mathlib.Core.Bool.{Bool, true, false, _&&_, _||_}
@@ -6,19 +6,19 @@ use mathlib.Core.List.{List, [], _∷_}
 use native.Mathlib.Omega.{arith}
 use native.Mathlib.Decide.{decLt}
 use lib.ListN.{length, getD}
-use Rattle.counting.specs.Times.{one, times}
+use Rattle.counting.specs.Times.{tally, times}
 use Rattle.counting.proofs.Counting.{hit, times-append, shorter}
-use Rattle.forest.specs.Forest.{Forest, has, count, above}
-use Rattle.forest.proofs.Counting.{count-has}
-use Rattle.forest.proofs.Sound.{Sound}
+use Rattle.link_forest.specs.Forest.{Forest, has, count, above}
+use Rattle.link_forest.proofs.Counting.{count-has}
+use Rattle.link_forest.proofs.Sound.{Sound}
 use Rattle.tree_state.specs.declared.Tree.{Tree}
 use Rattle.tree_state.specs.Tree.{isLive, markedAt, anyOf}
 use Rattle.tree_steps.specs.Commit.{changedAt, walked, walkAll, startsOf, visitsOf}
-use Rattle.visit_starts.proofs.Members.{starts-count, starts-member}
+use Rattle.slot_order.proofs.Members.{slots-count, slots-member}
 use Rattle.tree_visits.proofs.Owner.{or-left, or-right, mine-self}
 use Rattle.tree_visits.proofs.Walked.{ownerAt, walked-once, walked-low}
 
--- ---- the places that some starts have walked, where each start is a slot of the forest and none stands twice
+-- ---- the positions that some starts have walked, where each start is a slot of the forest and none stands twice
 module _ (t : Tree) (f : Forest) (S : Sound (t .links .order) (t .links .depth) (t .links .count) f) where
   abbrev pub Live : List ℕ → Type 0
   Live xs = (x : ℕ) → 1 ≤ times x xs → has x f ≡ true
@@ -71,29 +71,29 @@ module _ (t : Tree) (f : Forest) (S : Sound (t .links .order) (t .links .depth) 
 
   -- ---- of the commit
   pub visits-low : (i : ℕ) → 1 ≤ times i (visitsOf t) → i < t .links .count
-  visits-low = walk-low (startsOf t) (starts-count t f S)
+  visits-low = walk-low (startsOf t) (slots-count t f S (markedAt t))
 
   pub visits-once : (i : ℕ) → times i (visitsOf t) ≤ 1
-  visits-once = walk-once (startsOf t) (starts-count t f S)
+  visits-once = walk-once (startsOf t) (slots-count t f S (markedAt t))
 
   pub visits-few : length (visitsOf t) ≤ t .links .count
-  visits-few = walk-few (startsOf t) (starts-count t f S)
+  visits-few = walk-few (startsOf t) (slots-count t f S (markedAt t))
 
   -- nothing else is visited: each has a mark, or something above it counts as changed
   pub visits-why : (i : ℕ) → 1 ≤ times i (visitsOf t) → markedAt t (getD (t .links .order) i 0) || anyOf (changedAt t) (above (getD (t .links .order) i 0) f) ≡ true
   visits-why i h = go (anyOf (changedAt t) (above (getD (t .links .order) i 0) f)) refl
     where
       start : 1 ≤ times (ownerAt t f S i) (startsOf t)
-      start = omega (arith, owned-once (startsOf t) i (all-live (startsOf t) (starts-count t f S)) (visits-low i h))
+      start = omega (arith, owned-once (startsOf t) i (all-live (startsOf t) (slots-count t f S (markedAt t))) (visits-low i h))
 
-      second : (a b : Bool) → 1 ≤ one (a && b) → b ≡ true
+      second : (a b : Bool) → 1 ≤ tally (a && b) → b ≡ true
       second true true k = refl
       second true false k = absurd (omega arith)
       second false b k = absurd (omega arith)
 
       marked : markedAt t (ownerAt t f S i) ≡ true
       marked =
-          second (isLive t (ownerAt t f S i)) (markedAt t (ownerAt t f S i)) (omega (arith, start, starts-member t f S (ownerAt t f S i)))
+          second (isLive t (ownerAt t f S i)) (markedAt t (ownerAt t f S i)) (omega (arith, start, slots-member t f S (markedAt t) (ownerAt t f S i)))
 
       go : (b : Bool) → anyOf (changedAt t) (above (getD (t .links .order) i 0) f) ≡ b
           → markedAt t (getD (t .links .order) i 0) || anyOf (changedAt t) (above (getD (t .links .order) i 0) f) ≡ true

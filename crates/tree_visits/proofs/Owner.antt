@@ -9,10 +9,10 @@ use borrow.Author.Tests.{ne-eqb}
 use lib.Dec.{eqb}
 use Rattle.counting.specs.Times.{times}
 use Rattle.counting.proofs.Counting.{hit}
-use Rattle.forest.specs.Forest.{Forest, none, tree, has, Once, kids, above, part, Holds}
-use Rattle.forest.proofs.Bools.{never}
-use Rattle.forest.proofs.Clauses.{has-top, has-low, has-rest, has-nothing}
-use Rattle.forest.proofs.Holds.{Found, found, holds-at, holds-part, Parent, Above, parent-above, above-below}
+use Rattle.link_forest.specs.Forest.{Forest, none, tree, has, Distinct, kids, above, part, Holds}
+use Rattle.link_forest.proofs.Bools.{never}
+use Rattle.link_forest.proofs.Clauses.{has-top, has-low, has-rest, has-nothing}
+use Rattle.link_forest.proofs.Holds.{Found, found, holds-at, holds-part, Parent, Above, parent-above, above-below}
 use Rattle.tree_state.specs.Tree.{anyOf}
 
 -- ---- one of two
@@ -77,7 +77,7 @@ module _ (p : ℕ → Bool) where
       let u : owner y (q ∷ qs) ≡ s = owner-up y q qs e ∙ o in
       (u, below s y (q ∷ qs) c (any-above y (q ∷ qs) e) u, below s q qs r e o)
 
-  module _ (f : Forest) (once : Once f) where
+  module _ (f : Forest) (once : Distinct f) where
     abbrev pub mine : ℕ → ℕ
     mine z = owner z (above z f)
 

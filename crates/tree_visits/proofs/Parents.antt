@@ -8,16 +8,16 @@ use lib.ListN.{length, getD, take, drop}
 use lib.Seq.{drop-cons}
 use Rattle.counting.specs.Times.{times}
 use Rattle.counting.proofs.Counting.{hit}
-use Rattle.forest.specs.Forest.{Forest, none, tree, pre, has, above, part, Holds}
-use Rattle.forest.proofs.Bools.{never}
-use Rattle.forest.proofs.Holds.{Found, found, holds-part}
-use Rattle.forest.proofs.Rep.{rep-slot, rep-segment, rep-after, rep-within}
-use Rattle.forest.proofs.Sound.{Sound}
-use Rattle.links.specs.Links.{endOf}
+use Rattle.link_forest.specs.Forest.{Forest, none, tree, pre, has, above, part, Holds}
+use Rattle.link_forest.proofs.Bools.{never}
+use Rattle.link_forest.proofs.Holds.{Found, found, holds-part}
+use Rattle.link_forest.proofs.Rep.{rep-slot, rep-segment, rep-after, rep-within}
+use Rattle.link_forest.proofs.Sound.{Sound}
+use Rattle.link_table.specs.Links.{endOf}
 use Rattle.tree_state.specs.declared.Tree.{Tree}
-use Rattle.tree_state.specs.Tree.{placeOf, anyOf}
-use Rattle.tree_steps.specs.Commit.{ancestors, changedAt, placesFrom, walked, walkAll, startsOf, visitsOf}
-use Rattle.visit_starts.proofs.Members.{starts-count}
+use Rattle.tree_state.specs.Tree.{positionOf, anyOf, markedAt}
+use Rattle.tree_steps.specs.Commit.{ancestors, changedAt, positionsFrom, walked, walkAll, startsOf, visitsOf}
+use Rattle.slot_order.proofs.Members.{slots-count}
 use Rattle.tree_visits.proofs.Walked.{live-at, live-segment, ancestors-live, walked-covered, walked-whole, walked-alone}
 use Rattle.tree_visits.proofs.Laws.{first-live, rest-live, all-live}
 
@@ -57,27 +57,27 @@ module _ (p : ℕ → Bool) (f : Forest) where
         (λ more h. good-pre l more s (H .2) (ready-more seen more l (λ z. omega (arith, h z)) r)),
   )
 
--- ---- the slots of places in a row
+-- ---- the slots of positions in a row
 abbrev pub slotsAt : List ℕ → List ℕ → List ℕ
 slotsAt order is = map (λ (i : ℕ). getD order i 0) is
 
-pub slots-row : (order : List ℕ) (i n : ℕ) → i + n ≤ length order → slotsAt order (placesFrom i n) ≡ take n (drop i order)
-unfolding placesFrom
+pub slots-row : (order : List ℕ) (i n : ℕ) → i + n ≤ length order → slotsAt order (positionsFrom i n) ≡ take n (drop i order)
+unfolding positionsFrom
 slots-row order i zero h = refl
 slots-row order i (suc n) h = rw (drop-cons order i 0 (omega arith)) (ap (λ (l : List ℕ). getD order i 0 ∷ l) (slots-row order (suc i) n (omega arith)))
 
 module _ (t : Tree) (f : Forest) (S : Sound (t .links .order) (t .links .depth) (t .links .count) f) where
   good-walked : (s : ℕ) → has s f ≡ true → (seen : List ℕ) → Good (changedAt t) f seen (slotsAt (t .links .order) (walked t s))
-  good-walked s h seen = go (anyOf (changedAt t) (ancestors t (placeOf t s))) refl (changedAt t s) refl
+  good-walked s h seen = go (anyOf (changedAt t) (ancestors t (positionOf t s))) refl (changedAt t s) refl
     where
-      up : anyOf (changedAt t) (ancestors t (placeOf t s)) ≡ false → Ready (changedAt t) seen (above s f)
+      up : anyOf (changedAt t) (ancestors t (positionOf t s)) ≡ false → Ready (changedAt t) seen (above s f)
       up e = ready-free (changedAt t) f seen (above s f) (ap (anyOf (changedAt t)) (sym (ancestors-live t f S s h)) ∙ e)
 
-      go : (b : Bool) → anyOf (changedAt t) (ancestors t (placeOf t s)) ≡ b → (d : Bool) → changedAt t s ≡ d
+      go : (b : Bool) → anyOf (changedAt t) (ancestors t (positionOf t s)) ≡ b → (d : Bool) → changedAt t s ≡ d
           → Good (changedAt t) f seen (slotsAt (t .links .order) (walked t s))
       go true e d k = rw (walked-covered t s e) tt
       go false e true k =
-          let i = placeOf t s in
+          let i = positionOf t s in
           let g = live-segment t f S s h in
           let H = holds-part (Found f) s [] f h (found f (S .once)) in
           let room : i + (endOf (t .links) i - i) ≤ length (t .links .order) =
@@ -96,4 +96,4 @@ module _ (t : Tree) (f : Forest) (S : Sound (t .links .order) (t .links .depth) 
       (λ more h. good-walks xs (rest-live t f S x xs a) more))
 
   pub visits-parent : Good (changedAt t) f [] (slotsAt (t .links .order) (visitsOf t))
-  visits-parent = good-walks (startsOf t) (all-live t f S (startsOf t) (starts-count t f S)) []
+  visits-parent = good-walks (startsOf t) (all-live t f S (startsOf t) (slots-count t f S (markedAt t))) []

@@ -1,1 +1,2 @@
+pub mod walks
 pub mod Visits

@@ -1,16 +1,16 @@
 // Whether an answer is refusal 1.
-use tree_answers::AnswerBool;
-use tree_answers::AnswerClip;
-use tree_answers::AnswerFlags;
-use tree_answers::AnswerIds;
-use tree_answers::AnswerInsets;
-use tree_answers::AnswerLevel;
-use tree_answers::AnswerNode;
-use tree_answers::AnswerRect;
-use tree_answers::AnswerTransform;
 use tree_commit::Committed;
 use tree_insert::Inserted;
 use tree_listings::Listed;
+use tree_readings::answers::AnswerBool;
+use tree_readings::answers::AnswerClip;
+use tree_readings::answers::AnswerFlags;
+use tree_readings::answers::AnswerIds;
+use tree_readings::answers::AnswerInsets;
+use tree_readings::answers::AnswerLevel;
+use tree_readings::answers::AnswerNode;
+use tree_readings::answers::AnswerRect;
+use tree_readings::answers::AnswerTransform;
 use tree_state::Refusal;
 use tree_state::Verdict;
 use tree_taps::Tapped;

@@ -1,18 +1,19 @@
 // Every public call on a tree: whether it is refused 1, and whether it then leaves the tree and the room it is lent as they were.
 use crate::answers;
 use crate::same;
-use box_types::LocalNode;
-use box_types::NodeFlags;
-use box_types::OptionNodeId;
-use box_types::QueryFilter;
-use boxes::NodeId;
-use clips::clip::Clip;
+use geometry::affine::Affine;
 use geometry::insets::Insets;
 use geometry::point::Point;
 use geometry::rect::Rect;
-use transforms::affine::Affine;
+use geometry_clips::clip::Clip;
+use index_types::NodeId;
+use tree_readings::worlds;
 use tree_state::After;
 use tree_state::Tree;
+use tree_types::LocalNode;
+use tree_types::NodeFlags;
+use tree_types::OptionNodeId;
+use tree_types::QueryFilter;
 
 // Not refused 1; refused 1, and all is left as it was; refused 1 with a change.
 enum Outcome {
@@ -110,21 +111,31 @@ fn insert(t: Tree, h: Handed) -> Outcome {
     judged(one, left)
 }
 
-// By its place among remove, reparent and the six setters.
-fn changing(t: Tree, call: usize, h: Handed) -> After {
+// By its place among the six setters.
+fn setting(t: Tree, call: usize, h: Handed) -> After {
     let id = h.id;
-    let parent = h.parent;
     let flags = h.flags;
     match call {
-        0 => tree_remove::remove(t, id),
-        1 => tree_reparent::reparent(t, id, OptionNodeId::Some(parent)),
-        2 => tree_setters::set_local_transform(t, id, affine(h.number)),
-        3 => tree_setters::set_local_clip(t, id, square(h.number)),
-        4 => tree_setters::set_local_bounds(t, id, rect(h.number)),
-        5 => tree_setters::set_hit_slop(t, id, insets(h.number)),
-        6 => tree_setters::set_z_index(t, id, 1),
+        0 => tree_setters::set_local_transform(t, id, affine(h.number)),
+        1 => tree_setters::set_local_clip(t, id, square(h.number)),
+        2 => tree_setters::set_local_bounds(t, id, rect(h.number)),
+        3 => tree_setters::set_hit_slop(t, id, insets(h.number)),
+        4 => tree_setters::set_z_index(t, id, 1),
         _ => tree_setters::set_flags(t, id, flags),
     }
+}
+
+// By its place among the six setters, remove and reparent.
+fn changing(t: Tree, call: usize, h: Handed) -> After {
+    if call < 6 {
+        return setting(t, call, h);
+    }
+    let id = h.id;
+    let parent = h.parent;
+    if call == 6 {
+        return tree_remove::remove(t, id);
+    }
+    tree_reparent::reparent(t, id, OptionNodeId::Some(parent))
 }
 
 fn change(t: Tree, call: usize, h: Handed) -> Outcome {
@@ -138,7 +149,20 @@ fn change(t: Tree, call: usize, h: Handed) -> Outcome {
 
 // ---- readings
 
-fn reading(t: Tree, call: usize, id: NodeId) -> bool {
+// Of a node's place, and what the last commit left of it.
+fn placed(t: Tree, call: usize, id: NodeId) -> bool {
+    match call {
+        0 => answers::node(tree_links::parent_of(t, id)),
+        1 => answers::node(tree_links::next_depth_first(t, id)),
+        2 => answers::node(tree_links::prev_depth_first(t, id)),
+        3 => answers::transform(worlds::world_transform(t, id)),
+        4 => answers::rect(worlds::world_bounds(t, id)),
+        _ => answers::rect(worlds::world_hit_bounds(t, id)),
+    }
+}
+
+// Of its records.
+fn recorded(t: Tree, call: usize, id: NodeId) -> bool {
     match call {
         0 => answers::truth(tree_readings::needs_commit(t)),
         1 => answers::truth(tree_readings::is_alive(t, id)),
@@ -147,14 +171,15 @@ fn reading(t: Tree, call: usize, id: NodeId) -> bool {
         4 => answers::transform(tree_readings::local_transform(t, id)),
         5 => answers::clip(tree_readings::local_clip(t, id)),
         6 => answers::level(tree_readings::z_index(t, id)),
-        7 => answers::flags(tree_readings::flags(t, id)),
-        8 => answers::node(link_readings::parent_of(t, id)),
-        9 => answers::node(link_readings::next_depth_first(t, id)),
-        10 => answers::node(link_readings::prev_depth_first(t, id)),
-        11 => answers::transform(world_readings::world_transform(t, id)),
-        12 => answers::rect(world_readings::world_bounds(t, id)),
-        _ => answers::rect(world_readings::world_hit_bounds(t, id)),
+        _ => answers::flags(tree_readings::flags(t, id)),
     }
+}
+
+fn reading(t: Tree, call: usize, id: NodeId) -> bool {
+    if call < 8 {
+        return recorded(t, call, id);
+    }
+    placed(t, call - 8, id)
 }
 
 // ---- calls that are lent room
@@ -194,7 +219,7 @@ fn request(t: Tree, call: usize, h: Handed, room: &mut [u32]) -> bool {
     let required_flags = h.flags;
     let filter = QueryFilter { required_flags };
     match call {
-        0 => answers::ids(link_readings::children_of(t, id, room)),
+        0 => answers::ids(tree_links::children_of(t, id, room)),
         1 => answers::tapped(tree_taps::hit_test_point(t, Point { x, y: 3.0 }, filter, room)),
         2 => answers::listed(tree_listings::intersect_rect(t, rect(x), filter, room)),
         _ => answers::listed(tree_listings::containing_point(t, Point { x, y: 3.0 }, filter, room)),

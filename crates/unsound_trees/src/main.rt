@@ -1,21 +1,24 @@
 // Trees made by hand, and what every public call answers on each. A line of standard input is a call, as plan_calls has them; or `chain N`, a
 // committed tree made by calls, N nodes each below the one before; or `set TABLE PLACE NUMBER`, one number of the tree changed by hand; or
-// `every ..`, each public call made on the tree. The list has at most 65,536 bytes.
+// `every ..`, each public call made on the tree.
 mod answers; // whether an answer is refusal 1
 mod calls; // every call
 mod same; // whether two trees are the same
 mod set; // a change by hand
 
 use crate::calls::Tally;
-use box_types::LocalNode;
-use box_types::OptionNodeId;
-use call_lines::line;
-use call_lines::print;
-use call_lines::print::Buffer;
-use call_lists::State;
 use geometry::rect::Rect;
+use text_calls::State;
+use text_lines::input;
+use text_lines::input::Input;
+use text_lines::input::Space;
+use text_lines::line;
+use text_lines::print;
+use text_lines::print::Buffer;
 use tree_insert::Inserted;
 use tree_state::Tree;
+use tree_types::LocalNode;
+use tree_types::OptionNodeId;
 
 // ---- a chain
 
@@ -101,7 +104,7 @@ fn call_line(out: &mut Buffer, used: &mut usize, line: &[u8], t: Tree) -> Tree {
         ids: 256,
         rects: 512,
     };
-    let after = call_lists::answer(out, used, line, s);
+    let after = text_calls::answer(out, used, line, s);
     after.tree
 }
 
@@ -114,23 +117,29 @@ fn answer(out: &mut Buffer, used: &mut usize, line: &[u8], t: Tree) -> Tree {
     }
 }
 
-fn lines(list: &[u8]) {
-    let mut out = io::large_buffer();
-    let mut used = 0;
-    let mut t = tree_state::fresh();
-    let mut at = 0;
-    while at < list.len() {
-        let end = bytes::scan::find(list, at, list.len(), b'\n');
-        let next = end + 1;
-        t = answer(&mut out, &mut used, &list[at..end], t);
-        at = next;
+// Answers the line that is held, if it is whole.
+fn answer_line(out: &mut Buffer, used: &mut usize, space: &Space, p: Input, t: Tree) -> Tree {
+    if !p.is_line {
+        return t;
     }
-    print::flush(&out, used);
+    let n = input::line_length(space, p);
+    let held = &space[..];
+    answer(out, used, &held[..n], t)
 }
 
+// A proved loop has to end, and nothing says that the input does: the turns are counted down from a number that no run uses up.
 fn main() {
-    let mut space = io::large_buffer();
-    let n = io::read_full(0, &mut space);
-    let length = words::within(n, &space);
-    lines(&space[..length]);
+    let mut block = io::large_buffer();
+    let mut space = [0u8; 512];
+    let mut out = io::large_buffer();
+    let mut used = 0;
+    let mut p = input::start();
+    let mut t = tree_state::fresh();
+    let mut turns = u64::MAX;
+    while turns > 0 && p.is_open {
+        p = input::next(&mut block, &mut space, p);
+        t = answer_line(&mut out, &mut used, &space, p, t);
+        used = input::written(&out, used, p);
+        turns -= 1;
+    }
 }

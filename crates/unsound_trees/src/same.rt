@@ -1,5 +1,7 @@
 // Whether two trees are the same to the bit: every table, also what stands behind what is in use.
-use links::Links;
+use index_state::FlatVec;
+use index_state::Index;
+use link_table::Links;
 use tree_state::Keys;
 use tree_state::Locals;
 use tree_state::Marks;
@@ -7,26 +9,10 @@ use tree_state::Pending;
 use tree_state::Slots;
 use tree_state::Tree;
 use tree_state::Worlds;
-use understory_index::FlatVec;
-use understory_index::Index;
 
 // ---- tables of each type
 
 pub(crate) fn words(a: &[u32], b: &[u32]) -> bool {
-    if a.len() != b.len() {
-        return false;
-    }
-    let mut i = 0;
-    while i < a.len() {
-        if a[i] != b[i] {
-            return false;
-        }
-        i += 1;
-    }
-    true
-}
-
-fn bytes(a: &[u8], b: &[u8]) -> bool {
     if a.len() != b.len() {
         return false;
     }
@@ -101,7 +87,10 @@ fn shapes(a: Locals, b: Locals) -> bool {
 }
 
 fn locals(a: Locals, b: Locals) -> bool {
-    shapes(a, b) & bytes(&a.kind, &b.kind) & bytes(&a.flags, &b.flags) & levels(&a.level, &b.level)
+    shapes(a, b)
+        & check::same(&a.kind, &b.kind)
+        & check::same(&a.flags, &b.flags)
+        & levels(&a.level, &b.level)
 }
 
 fn worlds(a: Worlds, b: Worlds) -> bool {
@@ -127,15 +116,17 @@ fn pending(a: Pending, b: Pending) -> bool {
 }
 
 fn backend(a: FlatVec, b: FlatVec) -> bool {
-    bytes(&a.present, &b.present) & floats(&a.boxes, &b.boxes)
+    check::same(&a.present, &b.present) & floats(&a.boxes, &b.boxes)
 }
 
 fn entries(a: Index, b: Index) -> bool {
-    words(&a.generation, &b.generation) & bytes(&a.mark, &b.mark) & words(&a.payload, &b.payload)
+    words(&a.generation, &b.generation)
+        & check::same(&a.mark, &b.mark)
+        & words(&a.payload, &b.payload)
 }
 
 fn entry_boxes(a: Index, b: Index) -> bool {
-    floats(&a.aabb, &b.aabb) & bytes(&a.kept, &b.kept) & floats(&a.prev, &b.prev)
+    floats(&a.aabb, &b.aabb) & check::same(&a.kept, &b.kept) & floats(&a.prev, &b.prev)
 }
 
 fn lists(a: Index, b: Index) -> bool {

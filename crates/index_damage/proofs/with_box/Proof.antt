@@ -3,18 +3,6 @@ use Rattle.index_damage.specs.Damage.{withBox}
 use Rattle.index_damage.proofs.with_box.Statement.{statement}
 use Rattle.index_damage.proofs.with_box.Tie as tie
 
-enum-told : tie.Need-enum-told
-enum-told c = search needs
-
-enum-known-u : tie.Need-enum-known-u
-enum-known-u c = search needs
-
-union-requires : tie.Need-union-requires
-union-requires c κs = search needs
-
-enum-told-2 : tie.Need-enum-told-2
-enum-told-2 c = search needs
-
 returns : tie.Need-returns
 unfolding withBox
 returns c = rw (c .enum-told .given .1)
@@ -28,6 +16,4 @@ unfolding withBox
 returns-3 c = rw (c .enum-told2 .given .1)
 
 pub with-box-spec : {M : Type 1} → statement M
-with-box-spec =
-    tie.close
-    (tie.spec enum-told enum-known-u union-requires enum-told-2 returns returns-2 returns-3)
+with-box-spec = tie.close (tie.spec (λ c. search needs) (λ c. search needs) (λ c κs. search needs) (λ c. search needs) returns returns-2 returns-3)

@@ -5,7 +5,7 @@ use lib.ListN.{length, getD}
 use borrow.Author.Needs.{needs}
 use Rattle.index_query.proofs.Visits.{Listed, listed-none, listed-next, store-length}
 use Rattle.index_query.specs.Query.{visits, words}
-use Rattle.cells.specs.Cells.{idAt}
+use Rattle.index_types.specs.flat_tables.Tables.{idAt}
 use Rattle.index_query.proofs.visit_rect.Statement.{statement}
 use Rattle.index_query.proofs.visit_rect.Tie as tie
 

@@ -1,24 +1,21 @@
-use mathlib.Core.Path.{_≡_, refl}
-use Prim.Native.Nat.{_-_, _≤_}
+use Prim.Native.Nat.{_-_}
 use native.Mathlib.Omega.{arith}
-use lib.ListN.{length}
 use borrow.Author.Needs.{needs}
-use Rattle.index_sound.proofs.Counts.{Counts, none, next, outside, twice, all, refused, accepted}
-use Rattle.counting.proofs.Kit.{contra}
+use Rattle.counting.proofs.Counts.{Counts, zeros, too-many, none, outside, twice, next, ends}
 use Rattle.index_sound.proofs.count.Statement.{statement}
 use Rattle.index_sound.proofs.count.Tie as tie
 
 abbrev Inv-loop : tie.InvT-loop
-Inv-loop list n times₀ i₀ times i = (i ≤ n) × (n ≤ 512) × (length times ≡ 512) × (length list ≡ 512) × Counts times list i
+Inv-loop list n times₀ i₀ times i = Counts 512 list n times i
 
 abbrev μ-loop : tie.MeasureT-loop
 μ-loop list n times₀ i₀ times i = n - i
 
 returns : tie.Need-returns Inv-loop μ-loop
-returns c = let A = c .before .args in (refused (A .list .now) (A .n) (search needs) (λ O. omega (arith, O .fits)), λ e. absurd (contra e refl))
+returns c = let s = c .before in too-many 512 (s .args .list .now) (s .args .n) (s .pre) (zeros 512) (omega arith)
 
 loop-holds : tie.Need-loop-holds Inv-loop μ-loop
-loop-holds c = (omega arith, omega arith, refl, search needs, none 512 (c .before .args .list .now))
+loop-holds c = let s = c .before in none 512 (s .args .list .now) (s .args .n) (s .pre) (omega arith)
 
 mul-e : tie.Need-mul-e Inv-loop μ-loop
 mul-e c = search needs
@@ -27,7 +24,10 @@ element-copy-out-e : tie.Need-element-copy-out-e Inv-loop μ-loop
 element-copy-out-e c = search needs
 
 returns-2 : tie.Need-returns-2 Inv-loop μ-loop
-returns-2 c = let L = c .before .before .before .loop in let A = c .before .before .before .before .before .args in (refused (A .list .now) (A .n) (L .inv .3) (λ O. outside (L .times) (A .list .now) (L .i) (L .inv .4) (A .n) (omega arith) (omega arith) O (omega arith)), λ e. absurd (contra e refl))
+returns-2 c =
+    let L = c .before .before .before .loop in
+    let s = c .before .before .before .before .before in
+    outside 512 (s .args .list .now) (s .args .n) (s .pre) (L .times) (L .i) (L .inv) (omega arith) (omega arith)
 
 cast-x : tie.Need-cast-x Inv-loop μ-loop
 cast-x c = search needs
@@ -36,7 +36,10 @@ array-read-if3 : tie.Need-array-read-if3 Inv-loop μ-loop
 array-read-if3 c = search needs
 
 returns-3 : tie.Need-returns-3 Inv-loop μ-loop
-returns-3 c = let L = c .before .before .before .before .loop in let A = c .before .before .before .before .before .before .args in (refused (A .list .now) (A .n) (L .inv .3) (λ O. twice (L .times) (A .list .now) (L .i) (L .inv .4) (A .n) (omega arith) (omega arith) O (c .if3 .taken)), λ e. absurd (contra e refl))
+returns-3 c =
+    let L = c .before .before .before .before .loop in
+    let s = c .before .before .before .before .before .before in
+    twice 512 (s .args .list .now) (s .args .n) (s .pre) (L .times) (L .i) (L .inv) (omega arith) (c .if3 .taken)
 
 array-write-times : tie.Need-array-write-times Inv-loop μ-loop
 array-write-times c = search needs
@@ -48,10 +51,16 @@ loop-less : tie.Need-loop-less Inv-loop μ-loop
 loop-less c = search needs
 
 loop-again : tie.Need-loop-again Inv-loop μ-loop
-loop-again c = let L = c .before .before .before .before .loop in let A = c .before .before .before .before .before .before .args in (omega arith, omega arith, search needs, search needs, next (L .times) (A .list .now) (L .i) (L .inv .4) (omega arith) (omega arith) (c .if3 .left))
+loop-again c =
+    let L = c .before .before .before .before .loop in
+    let s = c .before .before .before .before .before .before in
+    next 512 (s .args .list .now) (s .args .n) (s .pre) (L .times) (L .i) (L .inv) (omega arith) (omega arith) (c .if3 .left)
 
 returns-4 : tie.Need-returns-4 Inv-loop μ-loop
-returns-4 c = let L = c .before .loop in let A = c .before .before .before .args in let e : L .i ≡ A .n = omega arith in (accepted (A .list .now) (A .n) (L .inv .3) (rw (← e) (all (L .times) (A .list .now) (L .i) (L .inv .4) (omega arith) (L .inv .2))), λ t x. rw (← e) (L .inv .4 .at x))
+returns-4 c =
+    let L = c .before .loop in
+    let s = c .before .before .before in
+    ends 512 (s .args .list .now) (s .args .n) (s .pre) (L .times) (L .i) (L .inv) (omega arith)
 
 pub count-spec : {M : Type 1} → statement M
 count-spec =

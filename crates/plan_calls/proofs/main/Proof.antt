@@ -1,56 +1,37 @@
--- `plan_calls::main` is safe and ends. The invariant: the space has 512 bytes. The measure is the number of turns that are left.
--- Assumes nothing.
-use mathlib.Core.Path.{_≡_}
-use borrow.Author.Needs.{needs}
-use lib.ListN.{length}
+-- `plan_calls::main` is safe and ends. Nothing has to hold from turn to turn; the measure is the number of turns that are left. Assumes nothing.
+use native.Mathlib.Omega.{arith}
 use Rattle.plan_calls.proofs.main.Statement.{statement}
 use Rattle.plan_calls.proofs.main.Tie as tie
 
 abbrev Inv-loop : tie.InvT-loop
-Inv-loop space₀ s₀ turns₀ space s turns = length space ≡ 512
+Inv-loop block₀ space₀ out₀ used₀ p₀ s₀ turns₀ block space out used p s turns = Unit {0}
 
 abbrev μ-loop : tie.MeasureT-loop
-μ-loop space₀ s₀ turns₀ space s turns = turns
-
-start-requires : tie.Need-start-requires Inv-loop μ-loop
-start-requires c κs = search needs
-
-loop-holds : tie.Need-loop-holds Inv-loop μ-loop
-loop-holds c = search needs
-
-slice-aggregate-read-some : tie.Need-slice-aggregate-read-some Inv-loop μ-loop
-slice-aggregate-read-some c = search needs
-
-read-some-requires : tie.Need-read-some-requires Inv-loop μ-loop
-read-some-requires c κs = search needs
+μ-loop block₀ space₀ out₀ used₀ p₀ s₀ turns₀ block space out used p s turns = turns
 
 sub-turns : tie.Need-sub-turns Inv-loop μ-loop
-sub-turns c = search needs
+sub-turns c = omega arith
 
 loop-less : tie.Need-loop-less Inv-loop μ-loop
-loop-less c = search needs
+loop-less c = omega arith
 
-loop-again : tie.Need-loop-again Inv-loop μ-loop
-loop-again c = search needs
-
-returns : tie.Need-returns Inv-loop μ-loop
-returns c = search needs
-
-returns-2 : tie.Need-returns-2 Inv-loop μ-loop
-returns-2 c = search needs
-
+-- two buffers, two starts, the loop's beginning, its three calls; the loop again, and both ways out
 pub main-spec : {M : Type 1} → statement M
 main-spec =
     tie.close
     (tie.spec
     Inv-loop
     μ-loop
-    start-requires
-    loop-holds
-    slice-aggregate-read-some
-    read-some-requires
+    (λ c κs. tt)
+    (λ c κs. tt)
+    (λ c κs. tt)
+    (λ c κs. tt)
+    (λ c. tt)
+    (λ c κs. tt)
+    (λ c κs. tt)
+    (λ c κs. tt)
     sub-turns
     loop-less
-    loop-again
-    returns
-    returns-2)
+    (λ c. tt)
+    (λ c. tt)
+    (λ c. tt))

@@ -1,4 +1,3 @@
-use Prim.Native.Nat.{ℕ, _+_, _-_, _≤_, _<_}
 use native.Mathlib.Omega.{arith}
 use borrow.Author.Needs.{needs}
 use mathlib.Core.Path.{_≡_}
@@ -7,11 +6,6 @@ use lib.ListN.{length, take}
 use Rattle.sheet_answers.proofs.Lines.{count-low}
 use Rattle.plan_taps.proofs.main.Statement.{statement}
 use Rattle.plan_taps.proofs.main.Tie as tie
-use Rattle.plan_taps.proofs.main.Reads as reads
-use Rattle.plan_taps.proofs.main.Lts as lts
-use Rattle.io.proofs.read_full.Reads as read-full-reads
-use Rattle.plan_taps.proofs.write_front.Reads as write-front-reads
-use Rattle.sheet_answers.proofs.answer_into.Reads as answer-into-reads
 
 slice-aggregate-read-full : tie.Need-slice-aggregate-read-full
 slice-aggregate-read-full c = search needs

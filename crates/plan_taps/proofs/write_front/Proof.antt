@@ -1,13 +1,8 @@
-use Prim.Native.Nat.{ℕ, _+_, _-_, _≤_, _<_}
-use native.Mathlib.Omega.{arith}
 use mathlib.Core.Path.{sym}
 use lib.Seq.{length-take-le}
 use borrow.Author.Needs.{needs}
 use Rattle.plan_taps.proofs.write_front.Statement.{statement}
 use Rattle.plan_taps.proofs.write_front.Tie as tie
-use Rattle.plan_taps.proofs.write_front.Reads as reads
-use Rattle.plan_taps.proofs.write_front.Lts as lts
-use Rattle.io.proofs.write_all.Reads as write-all-reads
 
 slice-aggregate-write-all : tie.Need-slice-aggregate-write-all
 slice-aggregate-write-all c = let s = c .before .before in sym (length-take-le (s .args .n) (s .args .room .now) (s .pre))

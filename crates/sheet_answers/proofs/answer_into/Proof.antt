@@ -1,6 +1,4 @@
 -- `sheet_answers::answer_into` meets its contract: under 16,384 bytes the room is as it was, else the text stands in front of it. Assumes nothing.
-use mathlib.Core.Path.{_≡_}
-use native.Mathlib.Omega.{arith}
 use borrow.Author.Needs.{needs}
 use borrow.Author.Tests.{lt-ltb, le-ltb}
 use lib.ListN.{length}

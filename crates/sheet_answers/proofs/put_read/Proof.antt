@@ -1,11 +1,9 @@
 -- `sheet_answers::put_read` meets its contract, by what was read. Assumes nothing.
-use mathlib.Core.Path.{_≡_, refl, sym, ap, _∙_, subst}
+use mathlib.Core.Path.{sym, subst}
 use borrow.Author.Needs.{needs}
-use Prim.Native.Nat.{ℕ}
-use mathlib.Core.List.{List}
-use Rattle.plan_sheet.specs.Sheet.{Read}
+use Rattle.sheet_format.specs.Sheet.{Read}
 use Rattle.sheet_calls.specs.Answers.{readText}
-use Rattle.sheet_text.specs.Text.{Stored}
+use Rattle.sheet_answers.specs.text.Text.{Stored}
 use Rattle.sheet_answers.proofs.Lines.{told-refused, told-sheet, line-low, good-read}
 use Rattle.sheet_answers.proofs.put_read.Statement.{statement}
 use Rattle.sheet_answers.proofs.put_read.Tie as tie

@@ -3,15 +3,15 @@ use mathlib.Core.Path.{_≡_, refl, sym, _∙_, subst}
 use mathlib.Core.List.{[], _∷_}
 use native.Mathlib.Omega.{arith}
 use borrow.Author.Needs.{needs}
+use Rattle.sheet_format.specs.Sheet.{tapWidth}
 use Rattle.tree_state.specs.declared.Tree.{Tree}
-use Rattle.plan_sheet.specs.Told.{rowsOf}
+use Rattle.sheet_format.specs.Told.{rowsOf, sheetOf}
 use Rattle.sheet_calls.specs.Answers.{lineOf}
 use Rattle.sheet_laws.specs.Built.{treeOf}
 use Rattle.sheet_laws.proofs.Tables.{good-untapped, same-tree}
-use Rattle.sheet_text.specs.Text.{Stored}
-use Rattle.sheet_text.proofs.Digits.{then-stored, room-kept}
-use Rattle.tap_lines.specs.Lines.{tapText, AllReady}
-use Rattle.sheet_answers.specs.Text.{sheetOf}
+use Rattle.sheet_answers.specs.text.Text.{Stored}
+use Rattle.sheet_answers.proofs.text.Digits.{then-stored, room-kept}
+use Rattle.sheet_answers.specs.tap_lines.Lines.{tapText, AllReady}
 use Rattle.sheet_answers.proofs.Lines.{sheet-text, few-taps, short-count, taps-ready}
 use Rattle.sheet_answers.proofs.put_sheet.Statement.{statement}
 use Rattle.sheet_answers.proofs.put_sheet.Tie as tie
@@ -50,7 +50,7 @@ returns c =
     let r = s .args .room .now in
     let m = l .put-line .last .0 in
     let n = q .put-taps .last .1 .1 .1 .1 .0 in
-    let rows = rowsOf 3 (p .tapped) (p .taps) in
+    let rows = rowsOf tapWidth (p .tapped) (p .taps) in
     subst (Stored r n 0 (q .put-taps .result)) (sheet-text p g)
     (then-stored r m n 0 (l .put-line .result) (q .put-taps .result) (lineOf (p .tapped ∷ [])) (tapText (treeOf (sheetOf p)) 1 rows) (l .put-line .ensures)
     (subst (λ (t : Tree). Stored m n (l .put-line .result) (q .put-taps .result) (tapText t 1 rows)) (tree (l .before .before)) (q .put-taps .ensures)))

@@ -3,7 +3,7 @@
 use lib.ListN.{take, drop}
 use mathlib.Core.Path.{_∙_}
 use Rattle.sheet_lines.proofs.Cuts.{past-end, no-end, with-end, told}
-use Prim.Native.Nat.{_+_, _-_}
+use Prim.Native.Nat.{_+_}
 use borrow.Author.Needs.{needs}
 use Rattle.sheet_lines.proofs.fields_at.Statement.{statement}
 use Rattle.sheet_lines.proofs.fields_at.Tie as tie

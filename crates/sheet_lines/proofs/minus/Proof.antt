@@ -1,7 +1,6 @@
 -- `sheet_lines::minus` meets its contract: and so is its negative.
 -- Assumes nothing.
 use Rattle.sheet_lines.proofs.Signs.{minus-fits, minus-read}
-use Prim.Native.Nat.{_-_}
 use borrow.Author.Needs.{needs}
 use Rattle.sheet_lines.proofs.minus.Statement.{statement}
 use Rattle.sheet_lines.proofs.minus.Tie as tie

@@ -3,7 +3,6 @@
 use Rattle.sheet_lines.proofs.Signs.{plus-read, minus-back}
 use mathlib.Core.Path.{_∙_}
 use Rattle.sheet_lines.proofs.Caps.{no-word, minus-first, zero-word, plus-first}
-use Prim.Native.Nat.{_-_}
 use borrow.Author.Needs.{needs}
 use Rattle.sheet_lines.proofs.number_of.Statement.{statement}
 use Rattle.sheet_lines.proofs.number_of.Tie as tie

@@ -1,7 +1,6 @@
 -- `sheet_lines::plus` meets its contract: a magnitude of at most 10^15 is a number of 64 bits.
 -- Assumes nothing.
 use Rattle.sheet_lines.proofs.Signs.{plus-read}
-use Prim.Native.Nat.{_-_}
 use borrow.Author.Needs.{needs}
 use Rattle.sheet_lines.proofs.plus.Statement.{statement}
 use Rattle.sheet_lines.proofs.plus.Tie as tie

@@ -2,7 +2,6 @@
 -- Assumes nothing.
 use mathlib.Core.Path.{_∙_}
 use Rattle.sheet_lines.proofs.Caps.{no-digits, zero-first, no-zero-first}
-use Prim.Native.Nat.{_-_}
 use borrow.Author.Needs.{needs}
 use Rattle.sheet_lines.proofs.positive.Statement.{statement}
 use Rattle.sheet_lines.proofs.positive.Tie as tie

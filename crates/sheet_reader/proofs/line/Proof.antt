@@ -18,7 +18,7 @@ use ghost.Atoms.{Atoms, sem}
 use contract.Lifetimes.{Lfts}
 use contract.Monad.{Fun, fact}
 use contract.Running.{givenOf, tables, tablesOf}
-use types.Kit.{Given, ‵, raw, _⊛_, given, ⋆, some, later, _$_, _∵_, !, qed, by, move, drop, use1, use2, split, join, learn, pick, fsplit, fjoin, suffices, frame, await, done}
+use types.Kit.{Given, ‵, raw, _⊛_, given, ⋆, some, later, _$_, _∵_, !, qed, by, move, drop, use1, use2, split, learn, pick, fsplit, fjoin, suffices, frame, await, done}
 use types.Part.{whole, sub, look-in}
 use types.Run.{look, init, forget, stop, fld, from, load, of-opd, and-then, no-more, assigns, land, returns, enter, alloc1, alloc0, params1, pass1, pass0, free1, free0}
 use sound.WpLaws.{FmC, fmOf, WpFn-mono}
@@ -42,6 +42,7 @@ use denote.Triple.Table.{entered, cited}
 use denote.Triple.Walked.{says, needs, Stays, stay-none, walkOf, goes-none, Walks, ends-at, walked, walk-meets}
 use denote.Exit.{yes}
 use denote.Triple.Clauses.{ensured, lasts}
+use Rattle.sheet_lines.specs.Lines.{lineWidth}
 use Rattle.sheet_lines.specs.Saturated.{First, toldLine, firstFields}
 use Rattle.sheet_reader.specs.declared.Reader.{Reader}
 use Rattle.sheet_lines.specs.declared.LineRow.{LineRow}
@@ -107,11 +108,11 @@ module _ {M : Type 1} (𝓤 : URA M) (H : Heap 𝓤) (A : Atoms 𝓤) (W : Given
   abbrev to : FieldsAt 𝓤 H A mem run .Ghost
   to = (((κ, tt), (q, tt), tt, (d .src, (d .at, (i, tt))), passed), tt)
 
-  asked : i ≤ 11 → ent 𝓤 (onEntry 𝓤 H A step.signature (κ, tt) (q, tt) (d .src, (d .at, (i, tt))) passed) (FieldsAt 𝓤 H A mem run .pre to)
+  asked : i ≤ lineWidth → ent 𝓤 (onEntry 𝓤 H A step.signature (κ, tt) (q, tt) (d .src, (d .at, (i, tt))) passed) (FieldsAt 𝓤 H A mem run .pre to)
   asked l = qed W ((‵ (flft κ q) ⊛ ‵ ftrue) ∷ ‵ (owns (ShrSlice (named 0) κ u8 ∷ usize ∷ usize ∷ []) (d .src, (d .at, (i, tt))) passed) ∷ []) ∵ says ! l $ frame ! $ done !
 
   -- what the struct owns gives what the callee asks, and is kept
-  apart : d .at < 2 ^ 64 → i < 2 ^ 64 → i ≤ 11 → ent 𝓤 (onEntry 𝓤 H A line.signature (κ, tt) (q, tt) (d, (i, tt)) at) (sep 𝓤 (FieldsAt 𝓤 H A mem run .pre to) (sem 𝓤 H A Own))
+  apart : d .at < 2 ^ 64 → i < 2 ^ 64 → i ≤ lineWidth → ent 𝓤 (onEntry 𝓤 H A line.signature (κ, tt) (q, tt) (d, (i, tt)) at) (sep 𝓤 (FieldsAt 𝓤 H A mem run .pre to) (sem 𝓤 H A Own))
   apart fits gi l =
       qed W ((‵ (flft κ q) ⊛ ‵ ftrue) ∷ ‵ (owns (B (κ, tt) ∷ usize ∷ []) (d, (i, tt)) at) ∷ []) ∵
       move ! (1 ∷ []) $ fsplit ! $ move ! (1 ∷ []) $ drop ! $ use1 W (‵ Own ⊛ ‵ Own) (LL.copy D (T′.the-copy (namedLft 1 0 tt (κ, tt))) 𝓤 H A W .twice d (mach ∷ [])) $ split ! $
@@ -131,7 +132,7 @@ module _ {M : Type 1} (𝓤 : URA M) (H : Heap 𝓤) (A : Atoms 𝓤) (W : Given
       move ! (1 ∷ []) $ frame ! $ nothing ! $ owned ! usize (Is usize) (uint-makes 𝓤 H A W w64) i _ (refl, gi) $ fjoin ! $ move ! (2 ∷ 0 ∷ []) $ fjoin ! $ frame ! $ done !
 
   module _ (C : Calls 𝓤 H) (Λ : Loops 𝓤 H) (fm : FmC 𝓤 H (W .laws) C) (known : Triple 𝓤 (C #sheet-lines·fields-at) (FieldsAt 𝓤 H A mem run)) where
-    walk : Holds (hasTy (T′.mir (named 0)) mach) × WT mach → i < 2 ^ 64 → i ≤ 11 → ent 𝓤 (onEntry 𝓤 H A line.signature (κ, tt) (q, tt) (d, (i, tt)) at) (WpFn 𝓤 H C Λ code.function (mach ∷ vint w64 i ∷ []) Post)
+    walk : Holds (hasTy (T′.mir (named 0)) mach) × WT mach → i < 2 ^ 64 → i ≤ lineWidth → ent 𝓤 (onEntry 𝓤 H A line.signature (κ, tt) (q, tt) (d, (i, tt)) at) (WpFn 𝓤 H C Λ code.function (mach ∷ vint w64 i ∷ []) Post)
     walk wt gi l =
         qed W (raw (onEntry 𝓤 H A line.signature (κ, tt) (q, tt) (d, (i, tt)) at) ∷ []) ∵ enter ! C Λ code.function (mach ∷ vint w64 i ∷ []) _ $
         alloc1 ! (λ l₀. alloc1 ! (λ l₁. alloc1 ! (λ l₂. alloc1 ! (λ l₃. alloc1 ! (λ l₄. alloc0 ! $ params1 ! $ pass1 ! (init ! 6 refl wt) $ pass1 ! (init ! 4 refl (tt, record { fits = gi })) $ pass0 ! $

@@ -36,14 +36,14 @@ use denote.Triple.Table.{entered, cited}
 use denote.Triple.Walked.{says, Stays, stay-none-slice, walkOf, goes-none-slice, Walks, ends-at, walked, walk-meets}
 use denote.Exit.{yes}
 use denote.Triple.Clauses.{ensured, lasts}
-use Rattle.plan_sheet.specs.Sheet.{Read, readSheet}
-use Rattle.plan_sheet.specs.Told.{told}
+use Rattle.sheet_format.specs.Sheet.{Read, readSheet}
+use Rattle.sheet_format.specs.Told.{told}
 use Rattle.sheet_reader.specs.declared.Reader.{Reader}
-use Rattle.plan_sheet.specs.declared.Parsed.{Parsed}
+use Rattle.sheet_format.specs.declared.Parsed.{Parsed}
 use Rattle.sheet_reader.proofs.Reader as T
 use Rattle.sheet_reader.proofs.Reader.Laws as T′
-use Rattle.plan_sheet.proofs.Parsed as S
-use Rattle.plan_sheet.proofs.Parsed.Laws as S′
+use Rattle.sheet_format.proofs.Parsed as S
+use Rattle.sheet_format.proofs.Parsed.Laws as S′
 use Rattle.sheet_reader.proofs.new as new
 use Rattle.sheet_reader.proofs.new.Symbol as new-def
 use Rattle.sheet_reader.proofs.new.Symbol.{name as #sheet-reader·new}

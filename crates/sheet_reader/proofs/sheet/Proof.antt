@@ -1,4 +1,4 @@
--- `sheet_reader::sheet` meets its contract: a walk of its MIR, by hand. The struct is taken apart, and `sheet_whole::sheet_at` is called on the slice and the number. All that the proof knows of `sheet_whole::sheet_at` is that it meets its contract.
+-- `sheet_reader::sheet` meets its contract: a walk of its MIR, by hand. The struct is taken apart, and `sheet_reader::whole::sheet_at` is called on the slice and the number. All that the proof knows of `sheet_reader::whole::sheet_at` is that it meets its contract.
 -- The struct is Copy: what it owns is had twice, one copy is kept whole for the exit, and of the other what src owns goes to the callee, beside the lifetime's token, which comes back.
 -- Assumes nothing.
 use mathlib.Core.Path.{_≡_, refl}
@@ -42,18 +42,18 @@ use denote.Triple.Table.{entered, cited}
 use denote.Triple.Walked.{says, Stays, stay-none, walkOf, goes-none, Walks, ends-at, walked, walk-meets}
 use denote.Exit.{yes}
 use denote.Triple.Clauses.{ensured, lasts}
-use Rattle.plan_sheet.specs.Sheet.{Read, readSheet}
-use Rattle.plan_sheet.specs.Told.{told}
+use Rattle.sheet_format.specs.Sheet.{Read, readSheet}
+use Rattle.sheet_format.specs.Told.{told}
 use Rattle.sheet_reader.specs.declared.Reader.{Reader}
-use Rattle.plan_sheet.specs.declared.Parsed.{Parsed}
+use Rattle.sheet_format.specs.declared.Parsed.{Parsed}
 use Rattle.sheet_reader.proofs.Reader as T
 use Rattle.sheet_reader.proofs.Reader.Laws as T′
-use Rattle.plan_sheet.proofs.Parsed as S
-use Rattle.plan_sheet.proofs.Parsed.Laws as S′
-use Rattle.sheet_whole.proofs.sheet_at as step
-use Rattle.sheet_whole.proofs.sheet_at.Symbol as step-def
-use Rattle.sheet_whole.proofs.sheet_at.Symbol.{name as #sheet-whole·sheet-at}
-use Rattle.sheet_whole.proofs.sheet_at.Met as step-thm
+use Rattle.sheet_format.proofs.Parsed as S
+use Rattle.sheet_format.proofs.Parsed.Laws as S′
+use Rattle.sheet_reader.proofs.whole.sheet_at as step
+use Rattle.sheet_reader.proofs.whole.sheet_at.Symbol as step-def
+use Rattle.sheet_reader.proofs.whole.sheet_at.Symbol.{name as #sheet-reader·whole·sheet-at}
+use Rattle.sheet_reader.proofs.whole.sheet_at.Met as step-thm
 use Rattle.sheet_reader.proofs.sheet.Key.{name as #sheet-reader·sheet}
 use Rattle.sheet_reader.proofs.sheet as sheet
 use Rattle.sheet_reader.proofs.sheet.Statement as stated
@@ -128,7 +128,7 @@ module _ {M : Type 1} (𝓤 : URA M) (H : Heap 𝓤) (A : Atoms 𝓤) (W : Given
       suffices ! _ (ends-at 𝓤 H A sheet.ended stayed (sheet.clauses 𝓤 H A mem run) W (((κ, tt), (q, tt), tt, (d, tt), (mach ∷ [], tt)), tt) u r (tt, tt) (tt, tt)) $ says ! e $
       move ! (1 ∷ []) $ frame ! $ nothing ! $ move ! (2 ∷ 0 ∷ []) $ fjoin ! $ frame ! $ done !
 
-  module _ (C : Calls 𝓤 H) (Λ : Loops 𝓤 H) (fm : FmC 𝓤 H (W .laws) C) (known : Triple 𝓤 (C #sheet-whole·sheet-at) (SheetAt 𝓤 H A mem run)) where
+  module _ (C : Calls 𝓤 H) (Λ : Loops 𝓤 H) (fm : FmC 𝓤 H (W .laws) C) (known : Triple 𝓤 (C #sheet-reader·whole·sheet-at) (SheetAt 𝓤 H A mem run)) where
     walk : Holds (hasTy (T′.mir (named 0)) mach) × WT mach → ent 𝓤 (onEntry 𝓤 H A sheet.signature (κ, tt) (q, tt) (d, tt) (mach ∷ [], tt)) (WpFn 𝓤 H C Λ code.function (mach ∷ []) Post)
     walk wt =
         qed W (raw (onEntry 𝓤 H A sheet.signature (κ, tt) (q, tt) (d, tt) (mach ∷ [], tt)) ∷ []) ∵ enter ! C Λ code.function (mach ∷ []) _ $
@@ -146,13 +146,13 @@ module _ {M : Type 1} (𝓤 : URA M) (H : Heap 𝓤) (A : Atoms 𝓤) (W : Given
         move ! (9 ∷ 10 ∷ []) $ free1 ! $ move ! (7 ∷ 8 ∷ []) $ free1 ! $ move ! (5 ∷ 6 ∷ []) $ free1 ! $ move ! (3 ∷ 4 ∷ []) $ free1 ! $ free0 ! $ by ! (exits r u e)))))))))
 
 module _ {M : Type 1} (𝓤 : URA M) (H : Heap 𝓤) (A : Atoms 𝓤) (W : Given 𝓤 H A) (mem : Memory → SProp 𝓤) (run : Routine → Fun 𝓤) where
-  sheet-walks : (C : Calls 𝓤 H) (Λ : Loops 𝓤 H) → FmC 𝓤 H (W .laws) C → Triple 𝓤 (C #sheet-whole·sheet-at) (SheetAt 𝓤 H A mem run)
+  sheet-walks : (C : Calls 𝓤 H) (Λ : Loops 𝓤 H) → FmC 𝓤 H (W .laws) C → Triple 𝓤 (C #sheet-reader·whole·sheet-at) (SheetAt 𝓤 H A mem run)
       → Walks 𝓤 H A sheet.ended stayed (WpFn 𝓤 H C Λ code.function) (sheet.clauses 𝓤 H A mem run)
   sheet-walks C Λ fm known = walked 𝓤 H A sheet.ended stayed (sheet.clauses 𝓤 H A mem run) (WpFn 𝓤 H C Λ code.function) (λ κs. (LL.vals (T.the-type (namedLft 1 0 tt κs)) (T′.the-laws (namedLft 1 0 tt κs)), tt)) (λ κs. (LL.tells (T.the-type (namedLft 1 0 tt κs)) (T′.the-laws (namedLft 1 0 tt κs)), tt))
       (λ κs qs bounds a g are. via 𝓤 _ (fst∗ 𝓤 _ (emp 𝓤)) (walk 𝓤 H A W mem run (κs .0) (qs .0) (a .0) C Λ fm known (LL.lawful (T.the-type (namedLft 1 0 tt κs)) (T′.the-laws (namedLft 1 0 tt κs)) 𝓤 H A W .typed (a .0) _ (are .0) .0)))
 
 sheet-meets : {M : Type 1} (𝓤 : URA M) (H : Heap 𝓤) (A : Atoms 𝓤) (W : Given 𝓤 H A) (mem : Memory → SProp 𝓤) (run : Routine → Fun 𝓤) (𝓣 : Tables 𝓤 H)
-    → Triple 𝓤 (𝓣 .C #sheet-whole·sheet-at) (SheetAt 𝓤 H A mem run)
+    → Triple 𝓤 (𝓣 .C #sheet-reader·whole·sheet-at) (SheetAt 𝓤 H A mem run)
     → Meets 𝓤 H A sheet.signature (WpFn 𝓤 H (𝓣 .C) (𝓣 .Λ) code.function) (sheet.spec 𝓤 H A mem run)
 sheet-meets 𝓤 H A W mem run 𝓣 known-step = walk-meets 𝓤 H A sheet.ended stayed W (goes-none 𝓤 H A W 1 B yes (λ κs x f. refl), tt) (sheet.clauses 𝓤 H A mem run) (WpFn 𝓤 H (𝓣 .C) (𝓣 .Λ) code.function) (WpFn-mono 𝓤 H (W .laws) 𝓣 code.function)
     (sheet-walks 𝓤 H A W mem run (𝓣 .C) (𝓣 .Λ) (fmOf 𝓤 H (W .laws) 𝓣) known-step)
@@ -163,4 +163,4 @@ sheet-spec 𝓤 H 𝓜 𝓖 𝓡 =
     entered 𝓤 H (tripleOf 𝓤 H (𝓖 .A) sheet.signature (sheet.spec 𝓤 H (𝓖 .A) (𝓜 .mem) (𝓡 .run)))
     (tables 𝓤 H 𝓜 𝓡 code.env .C) (tables 𝓤 H 𝓜 𝓡 code.env .Λ) #sheet-reader·sheet code.function (code.unfolded 𝓤 H 𝓜 𝓡)
     (sheet-meets 𝓤 H (𝓖 .A) (givenOf 𝓤 H 𝓜 𝓖) (𝓜 .mem) (𝓡 .run) (tablesOf 𝓤 H 𝓜 (tables 𝓤 H 𝓜 𝓡 code.env))
-    (cited 𝓤 H (SheetAt 𝓤 H (𝓖 .A) (𝓜 .mem) (𝓡 .run)) 𝓜 𝓡 code.env #sheet-whole·sheet-at step-def.routine code.calls-sheet-whole·sheet-at (step-thm.met 𝓤 H 𝓜 𝓖 𝓡)))
+    (cited 𝓤 H (SheetAt 𝓤 H (𝓖 .A) (𝓜 .mem) (𝓡 .run)) 𝓜 𝓡 code.env #sheet-reader·whole·sheet-at step-def.routine code.calls-sheet-reader·whole·sheet-at (step-thm.met 𝓤 H 𝓜 𝓖 𝓡)))

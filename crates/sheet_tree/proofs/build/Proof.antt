@@ -1,12 +1,12 @@
 -- `sheet_tree::build` meets its contract: what the inserts leave is sound, and the commit is the sheet's last call. Assumes nothing.
-use mathlib.Core.Path.{_≡_, ap, _∙_}
+use mathlib.Core.Path.{ap, _∙_}
 use borrow.Author.Needs.{needs}
-use Rattle.commit_work.specs.declared.Done.{Done}
+use Rattle.tree_commit.specs.declared.work.Done.{Done}
 use Rattle.tree_state.specs.declared.Tree.{Tree}
 use Rattle.tree_state.specs.Sound.{soundTree}
 use Rattle.tree_steps.specs.Commit.{commitTree}
 use Rattle.sheet_laws.proofs.Tree.{sound-up-to}
-use Rattle.sheet_places.specs.Rows.{sheetOf}
+use Rattle.sheet_tree.specs.places.Rows.{sheetOf}
 use Rattle.sheet_tree.proofs.Last.{committed}
 use Rattle.sheet_tree.proofs.build.Statement.{statement}
 use Rattle.sheet_tree.proofs.build.Tie as tie

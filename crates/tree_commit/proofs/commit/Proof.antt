@@ -1,7 +1,6 @@
 use mathlib.Core.Path.{_≡_, sym, _∙_}
 use lib.ListN.{length}
 use borrow.Author.Needs.{needs}
-use Rattle.tree_state.specs.declared.Verdict.the-variants as is
 use Rattle.tree_steps.specs.Commit.{commitVerdict}
 use Rattle.tree_commit.proofs.Call.{accepted, call-done, call-refused}
 use Rattle.tree_commit.proofs.commit.Statement.{statement}

@@ -1,64 +1,15 @@
-use native.Mathlib.Nat.{add-zero}
 use borrow.Author.Needs.{needs}
-use Rattle.cells.proofs.Segments.{cell}
+use Rattle.index_types.specs.flat_tables.Tables.{boxAt}
 use Rattle.node_tables.specs.Tables.{rectAt}
 use Rattle.tree_damage.proofs.rect_in.Statement.{statement}
 use Rattle.tree_damage.proofs.rect_in.Tie as tie
 
-mul-p : tie.Need-mul-p
-mul-p c = search needs
-
-mul-t4 : tie.Need-mul-t4
-mul-t4 c = search needs
-
-shared-slice-read-t6 : tie.Need-shared-slice-read-t6
-shared-slice-read-t6 c = search needs
-
-add-t7 : tie.Need-add-t7
-add-t7 c = search needs
-
-mul-t8 : tie.Need-mul-t8
-mul-t8 c = search needs
-
-shared-slice-read-t10 : tie.Need-shared-slice-read-t10
-shared-slice-read-t10 c = search needs
-
-add-t11 : tie.Need-add-t11
-add-t11 c = search needs
-
-mul-t12 : tie.Need-mul-t12
-mul-t12 c = search needs
-
-shared-slice-read-t14 : tie.Need-shared-slice-read-t14
-shared-slice-read-t14 c = search needs
-
-add-t15 : tie.Need-add-t15
-add-t15 c = search needs
-
-mul-t16 : tie.Need-mul-t16
-mul-t16 c = search needs
-
-shared-slice-read-t18 : tie.Need-shared-slice-read-t18
-shared-slice-read-t18 c = search needs
+box-in-requires : tie.Need-box-in-requires
+box-in-requires c κs = search needs
 
 returns : tie.Need-returns
-unfolding rectAt
-returns c = simp (cell, add-zero)
+unfolding boxAt rectAt
+returns c = rw (c .box-in .ensures)
 
 pub rect-in-spec : {M : Type 1} → statement M
-rect-in-spec =
-    tie.close
-    (tie.spec
-    mul-p
-    mul-t4
-    shared-slice-read-t6
-    add-t7
-    mul-t8
-    shared-slice-read-t10
-    add-t11
-    mul-t12
-    shared-slice-read-t14
-    add-t15
-    mul-t16
-    shared-slice-read-t18
-    returns)
+rect-in-spec = tie.close (tie.spec box-in-requires returns)

@@ -1,8 +1,8 @@
-use mathlib.Core.Path.{_≡_, sym, _∙_}
+use mathlib.Core.Path.{sym, _∙_}
 use Prim.Native.Nat.{_<_}
 use native.Mathlib.Omega.{arith}
 use borrow.Author.Needs.{needs}
-use Rattle.node_slots.proofs.Steps.{id-low}
+use Rattle.tree_insert.proofs.slots.Steps.{id-low}
 use Rattle.tree_insert.proofs.Call.{Room, room-of, refused, accepted, done}
 use Rattle.tree_insert.proofs.insert.Statement.{statement}
 use Rattle.tree_insert.proofs.insert.Tie as tie

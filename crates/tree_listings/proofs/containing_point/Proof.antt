@@ -1,5 +1,5 @@
 use borrow.Author.Needs.{needs}
-use Rattle.listing_entries.proofs.Entries.{point-listed}
+use Rattle.tree_listings.proofs.entries.Entries.{point-listed}
 use Rattle.tree_listings.proofs.containing_point.Statement.{statement}
 use Rattle.tree_listings.proofs.containing_point.Tie as tie
 

@@ -1,9 +1,9 @@
-use mathlib.Core.Path.{_≡_, sym, _∙_}
+use mathlib.Core.Path.{sym, _∙_}
 use borrow.Author.Needs.{needs}
-use Rattle.tree_nodes.proofs.Lengths.{sized}
-use Rattle.tree_nodes.proofs.Nodes.{node-accepted}
+use Rattle.tree_verdicts.proofs.nodes.Lengths.{sized}
+use Rattle.tree_verdicts.proofs.nodes.Nodes.{node-accepted}
 use Rattle.tree_state.specs.Tree.{localAt}
-use Rattle.tree_answers.specs.Answers.{flagsIf}
+use Rattle.tree_readings.specs.answers.Answers.{flagsIf}
 use Rattle.tree_readings.proofs.flags.Statement.{statement}
 use Rattle.tree_readings.proofs.flags.Tie as tie
 

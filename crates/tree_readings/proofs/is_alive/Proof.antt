@@ -1,9 +1,9 @@
-use mathlib.Core.Path.{_≡_, sym, _∙_}
+use mathlib.Core.Path.{sym, _∙_}
 use borrow.Author.Needs.{needs}
 use Rattle.tree_state.specs.Tree.{live}
-use Rattle.tree_nodes.proofs.Lengths.{sized}
-use Rattle.tree_nodes.proofs.Nodes.{held-accepted, live-needs}
-use Rattle.tree_answers.specs.Answers.{boolIf}
+use Rattle.tree_verdicts.proofs.nodes.Lengths.{sized}
+use Rattle.tree_verdicts.proofs.nodes.Nodes.{held-accepted, live-needs}
+use Rattle.tree_readings.specs.answers.Answers.{boolIf}
 use Rattle.tree_readings.proofs.is_alive.Statement.{statement}
 use Rattle.tree_readings.proofs.is_alive.Tie as tie
 

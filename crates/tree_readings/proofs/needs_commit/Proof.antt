@@ -1,8 +1,8 @@
-use mathlib.Core.Path.{_≡_, sym, _∙_}
+use mathlib.Core.Path.{sym, _∙_}
 use borrow.Author.Needs.{needs}
-use Rattle.tree_nodes.proofs.Lengths.{sized}
-use Rattle.tree_nodes.proofs.Nodes.{held-accepted}
-use Rattle.tree_answers.specs.Answers.{boolIf}
+use Rattle.tree_verdicts.proofs.nodes.Lengths.{sized}
+use Rattle.tree_verdicts.proofs.nodes.Nodes.{held-accepted}
+use Rattle.tree_readings.specs.answers.Answers.{boolIf}
 use Rattle.tree_readings.proofs.needs_commit.Statement.{statement}
 use Rattle.tree_readings.proofs.needs_commit.Tie as tie
 

@@ -4,11 +4,11 @@ use mir.Facts.{toZ-ofZ}
 use borrow.Author.Needs.{needs, sfits-of}
 use Rattle.tree_state.specs.declared.Verdict.{Verdict}
 use Rattle.tree_state.specs.declared.Verdict.the-variants as is
-use Rattle.tree_answers.specs.declared.AnswerLevel.the-variants as level
-use Rattle.tree_nodes.proofs.Lengths.{sized}
-use Rattle.tree_nodes.proofs.Nodes.{node-accepted}
+use Rattle.tree_readings.specs.declared.answers.AnswerLevel.the-variants as level
+use Rattle.tree_verdicts.proofs.nodes.Lengths.{sized}
+use Rattle.tree_verdicts.proofs.nodes.Nodes.{node-accepted}
 use Rattle.tree_state.specs.Tree.{localAt}
-use Rattle.tree_answers.specs.Answers.{levelIf}
+use Rattle.tree_readings.specs.answers.Answers.{levelIf}
 use Rattle.tree_readings.proofs.z_index.Statement.{statement}
 use Rattle.tree_readings.proofs.z_index.Tie as tie
 

@@ -2,12 +2,12 @@ use mathlib.Core.Path.{refl, sym, _∙_}
 use Prim.Native.Nat.{_<_}
 use native.Mathlib.Omega.{arith}
 use borrow.Author.Needs.{needs}
-use Rattle.tree_state.specs.Tree.{placeOf}
+use Rattle.tree_state.specs.Tree.{positionOf}
 use Rattle.tree_steps.specs.Setters.{ofNode}
 use Rattle.tree_steps.specs.Structure.{removeTree}
-use Rattle.tree_nodes.proofs.Lengths.{sized, order-long, depth-long}
-use Rattle.tree_nodes.proofs.Nodes.{Node, node-accepted}
-use Rattle.tree_changes.proofs.Answers.{refused, accepted, place-fits}
+use Rattle.tree_verdicts.proofs.nodes.Lengths.{sized, order-long, depth-long}
+use Rattle.tree_verdicts.proofs.nodes.Nodes.{Node, node-accepted}
+use Rattle.tree_verdicts.proofs.marks.Answers.{refused, accepted, place-fits}
 use Rattle.tree_remove.proofs.Subtree.{ready, few, done}
 use Rattle.tree_remove.proofs.remove.Statement.{statement}
 use Rattle.tree_remove.proofs.remove.Tie as tie
@@ -25,7 +25,7 @@ returns : tie.Need-returns
 returns c =
     let k = c .before .before in
     let A = k .before .args in
-    refused (ofNode (A .t) (A .id)) (k .of-node .result) (removeTree (A .t) (placeOf (A .t) (A .id .0))) (A .t) (k .of-node .ensures) (c .enum-told2 .given .0 .0) (c .enum-told2 .given .1)
+    refused (ofNode (A .t) (A .id)) (k .of-node .result) (removeTree (A .t) (positionOf (A .t) (A .id .0))) (A .t) (k .of-node .ensures) (c .enum-told2 .given .0 .0) (c .enum-told2 .given .1)
 
 -- ---- the node
 
@@ -115,9 +115,9 @@ returns-2 c =
     let R = n .remove-nodes .result in
     let T = n .remove-nodes .ensures in
     let k = d .before .before in
-    accepted (ofNode (A .t) (A .id)) (k .of-node .result) (removeTree (A .t) (placeOf (A .t) (A .id .0))) (A .t) (k .of-node .ensures) _ (d .enum-told .given .1)
+    accepted (ofNode (A .t) (A .id)) (k .of-node .result) (removeTree (A .t) (positionOf (A .t) (A .id .0))) (A .t) (k .of-node .ensures) _ (d .enum-told .given .1)
     (done (A .t) (Z .good .0) (A .id) (node d) (P .result) (E .result) (P .ensures .1) (E .ensures .2) (E .ensures .0) (E .ensures .1) _ _ (g .post-order .ensures .1)
-    (c .cut-tree .result) _ (R .frees) _ (R .pending) _ _ (R .«entries_frees») _ (R .queued) (c .cut-tree .ensures) (T .0 .0) (T .0 .1) (T .1 .0) (T .1 .1 .0) (T .1 .1 .1 .0) (T .1 .1 .1 .1))
+    (c .cut-tree .result) _ (R .«slots_frees») _ (R .«pending_count») _ _ (R .«index_frees») _ (R .queued) (c .cut-tree .ensures) (T .0 .0) (T .0 .1) (T .1 .0) (T .1 .1 .0) (T .1 .1 .1 .0) (T .1 .1 .1 .1))
 
 pub remove-spec : {M : Type 1} → statement M
 remove-spec =

@@ -9,14 +9,27 @@ use borrow.Author.Needs.{needs}
 use borrow.Author.Tests.{not-true, not-false}
 use Rattle.index_sound.specs.Sound.{soundOf}
 use Rattle.tree_state.specs.declared.Tree.{Tree}
+use Rattle.tree_state.specs.Lent as lent
 use Rattle.tree_state.specs.Sound.{slotsRight}
-use Rattle.tree_sound.specs.Parts.{Low, lent}
+use Rattle.tree_sound.specs.Parts.{Low}
 use Rattle.tree_sound.proofs.Whole.{slots-fit, slots-low, unsound-slots, unsound-index, soundOf-used, answered}
 use Rattle.tree_sound.proofs.sound_tables.Statement.{statement}
 use Rattle.tree_sound.proofs.sound_tables.Tie as tie
 
+-- a tree with these tables
 abbrev tree : tie.Start → Tree → Tree
-tree s t = let A = s .args in lent t (A .order .now) (A .depth .now) (A .ages .now) (A .spare .now) (A .bounds .now) (A .slop .now) (A .transform .now) (A .kind .now) (A .clip .now) (A .flags .now) (A .world .now) (A .hit .now) (A .marked .now) (A .moved .now) (A .clipped .now) (A .committed .now) (A .slot .now) (A .under .now) (A .mark .now) (A .generation .now) (A .payload .now) (A .free .now) (A .dirty .now) (A .n) (A .used) (A .spares) (A .pending) (A .frees) (A .queued) (A .taken)
+tree s t =
+    let A = s .args in
+    lent.tree
+    (lent.slots (A .slots-generation .now) (A .slots-used) (A .slots-free .now) (A .slots-frees))
+    (lent.links (A .order .now) (A .depth .now) (A .links-count))
+    (lent.locals (A .locals-bounds .now) (A .slop .now) (A .locals-transform .now) (A .kind .now) (A .locals-clip .now) (t .locals .level) (A .flags .now))
+    (lent.worlds (t .worlds .transform) (t .worlds .clipped) (t .worlds .clip) (A .worlds-bounds .now) (A .hit-bounds .now))
+    (lent.marks (A .marked .now) (A .marks-transform .now) (A .marks-clip .now))
+    (lent.keys (A .committed .now) (A .slot .now) (A .keys-generation .now))
+    (lent.pending (t .pending .rects) (A .pending-count))
+    (lent.index (A .index-generation .now) (A .mark .now) (A .payload .now) (t .index .aabb) (t .index .kept) (t .index .prev) (A .index-used)
+    (A .index-free .now) (A .index-frees) (A .dirty .now) (A .queued) (t .index .backend))
 
 module _ (c : tie.Else1) where
   abbrev start : tie.Start
@@ -25,16 +38,20 @@ module _ (c : tie.Else1) where
   passed : c .before .count-slots .result .ok ≡ true
   passed = not-false (c .before .count-slots .result .ok) (c .if1 .left)
 
-  right : slotsRight (start .args .order .now) (start .args .n) (start .args .spare .now) (start .args .spares) (start .args .used) ≡ true
+  right : let A = start .args in slotsRight (A .order .now) (A .links-count) (A .slots-free .now) (A .slots-frees) (A .slots-used) ≡ true
   right = sym (c .before .count-slots .ensures .0) ∙ passed
 
-  fit : start .args .n ≤ 256
-  fit = slots-fit (start .args .order .now) (start .args .n) (start .args .spare .now) (start .args .spares) (start .args .used) right (start .pre .0)
+  fit : start .args .links-count ≤ 256
+  fit =
+      let A = start .args in
+      slots-fit (A .order .now) (A .links-count) (A .slots-free .now) (A .slots-frees) (A .slots-used) right (start .pre .0)
 
-  low : Low (start .args .order .now) (start .args .n)
-  low = slots-low (start .args .order .now) (start .args .n) (start .args .spare .now) (start .args .spares) (start .args .used) right (start .pre .0)
+  low : Low (start .args .order .now) (start .args .links-count)
+  low =
+      let A = start .args in
+      slots-low (A .order .now) (A .links-count) (A .slots-free .now) (A .slots-frees) (A .slots-used) right (start .pre .0)
 
-  listed : (start .args .n ≤ 256) × (length (start .args .order .now) ≡ 256) × Low (start .args .order .now) (start .args .n)
+  listed : (start .args .links-count ≤ 256) × (length (start .args .order .now) ≡ 256) × Low (start .args .order .now) (start .args .links-count)
   listed = (fit, start .pre .0, low)
 
 times-long : (c : tie.After-count-slots) → length (c .count-slots .result .times) ≡ 256
@@ -48,11 +65,14 @@ module _ (c : tie.Else2) where
   abbrev from : tie.Start
   from = start (slots-passed c)
 
-  sound : soundOf (from .args .mark .now) (from .args .free .now) (from .args .frees) (from .args .dirty .now) (from .args .queued) (from .args .taken) ≡ true
+  sound : let A = from .args in soundOf (A .mark .now) (A .index-free .now) (A .index-frees) (A .dirty .now) (A .queued) (A .index-used) ≡ true
   sound = sym (c .before .is-sound .ensures) ∙ not-false (c .before .is-sound .result) (c .if2 .left)
 
-  fits : from .args .taken ≤ 512
-  fits = soundOf-used (from .args .mark .now) (from .args .free .now) (from .args .frees) (from .args .dirty .now) (from .args .queued) (from .args .taken) (from .pre .3) (from .pre .4) (from .pre .5) sound
+  fits : from .args .index-used ≤ 512
+  fits =
+      let A = from .args in
+      soundOf-used (A .mark .now) (A .index-free .now) (A .index-frees) (A .dirty .now) (A .queued) (A .index-used) (from .pre .3) (from .pre .4)
+      (from .pre .5) sound
 
 count-slots-requires : tie.Need-count-slots-requires
 count-slots-requires c κs = (c .pre .0, c .pre .2)

@@ -7,7 +7,8 @@ use Rattle.index_speed.proofs.change.again.Statement.{statement}
 use Rattle.index_speed.proofs.change.again.Tie as tie
 
 abbrev Inv-loop : tie.InvT-loop
-Inv-loop sum added₀ removed₀ old₀ new₀ ix last₀ s₀ k₀ added removed old new last s k = (length added ≡ length added₀) × (length removed ≡ length removed₀) × (length old ≡ length old₀) × (length new ≡ length new₀)
+Inv-loop sum added₀ removed₀ old₀ new₀ ix last₀ s₀ k₀ added removed old new last s k =
+    (length added ≡ length added₀) × (length removed ≡ length removed₀) × (length old ≡ length old₀) × (length new ≡ length new₀)
 
 abbrev μ-loop : tie.MeasureT-loop
 μ-loop sum added₀ removed₀ old₀ new₀ ix last₀ s₀ k₀ added removed old new last s k = 64 - k

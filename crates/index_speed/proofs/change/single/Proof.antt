@@ -7,7 +7,8 @@ use Rattle.index_speed.proofs.change.single.Statement.{statement}
 use Rattle.index_speed.proofs.change.single.Tie as tie
 
 abbrev Inv-loop : tie.InvT-loop
-Inv-loop shift added₀ removed₀ old₀ new₀ ix₀ s₀ i₀ added removed old new ix s i = (length added ≡ length added₀) × (length removed ≡ length removed₀) × (length old ≡ length old₀) × (length new ≡ length new₀)
+Inv-loop shift added₀ removed₀ old₀ new₀ ix₀ s₀ i₀ added removed old new ix s i =
+    (length added ≡ length added₀) × (length removed ≡ length removed₀) × (length old ≡ length old₀) × (length new ≡ length new₀)
 
 abbrev μ-loop : tie.MeasureT-loop
 μ-loop shift added₀ removed₀ old₀ new₀ ix₀ s₀ i₀ added removed old new ix s i = 512 - i

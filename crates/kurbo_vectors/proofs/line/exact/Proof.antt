@@ -1,12 +1,12 @@
 -- `kurbo_vectors::line::exact` meets its contract: a number that differs from itself is NaN, and any other has one pattern.
 -- Assumes nothing.
-use mathlib.Core.Path.{_≡_, sym, subst, ap, _∙_}
+use mathlib.Core.Path.{sym, subst, ap, _∙_}
 use borrow.Author.Needs.{needs}
 use lib.Dec.{T, eqb→eq}
 use lib.Ieee.{binary64, fits, ofBits, toBits}
 use lib.Ieee.Bits.{ofBits-toBits}
 use lib.Ieee.Compare.{differs-from-itself}
-use Rattle.words.proofs.Nan.{nan-pattern, no-nan}
+use Rattle.text_lines.proofs.spelling.Nan.{nan-pattern, no-nan}
 use Rattle.kurbo_vectors.proofs.line.exact.Statement.{statement}
 use Rattle.kurbo_vectors.proofs.line.exact.Tie as tie
 

@@ -1,5 +1,4 @@
-use Prim.Native.Nat.{ℕ, _+_, _-_, _≤_, _<_}
-use native.Mathlib.Omega.{arith}
+-- `tree_speed::ask::alives` is safe and ends. The measure is how many calls are left. Assumes nothing.
 use borrow.Author.Needs.{needs}
 use Rattle.tree_speed.proofs.ask.alives.Statement.{statement}
 use Rattle.tree_speed.proofs.ask.alives.Tie as tie

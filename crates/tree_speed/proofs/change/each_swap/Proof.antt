@@ -1,7 +1,6 @@
+-- `tree_speed::change::each_swap` is safe and ends. The invariant: the room keeps its length. The measure is how many calls are left. Assumes nothing.
 use mathlib.Core.Path.{_≡_}
 use lib.ListN.{length}
-use Prim.Native.Nat.{ℕ, _+_, _-_, _≤_, _<_}
-use native.Mathlib.Omega.{arith}
 use borrow.Author.Needs.{needs}
 use Rattle.tree_speed.proofs.change.each_swap.Statement.{statement}
 use Rattle.tree_speed.proofs.change.each_swap.Tie as tie
@@ -46,7 +45,12 @@ loop-less : tie.Need-loop-less Inv-loop μ-loop
 loop-less c = search needs
 
 loop-again : tie.Need-loop-again Inv-loop μ-loop
-loop-again c = let r = c .before .before .before .before .room in let k = c .before .before .before .slice-known2 in let m = c .before .before .before .before .before in let L = c .before .before .before .before .before .before .before .before .before .before .before .before .before .before .before .loop .inv in search needs
+loop-again c =
+    let r = c .before .before .before .before .room in
+    let k = c .before .before .before .slice-known2 in
+    let m = c .before .before .before .before .before in
+    let L = c .before .before .before .before .before .before .before .before .before .before .before .before .before .before .before .loop .inv in
+    search needs
 
 same-length : tie.Need-same-length Inv-loop μ-loop
 same-length c = search needs

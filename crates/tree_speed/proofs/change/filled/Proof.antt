@@ -1,5 +1,5 @@
-use Prim.Native.Nat.{ℕ, _+_, _-_, _≤_, _<_}
-use native.Mathlib.Omega.{arith}
+-- `tree_speed::change::filled` is safe and ends. The measure is how many nodes are left. Assumes nothing.
+use Prim.Native.Nat.{_-_}
 use borrow.Author.Needs.{needs}
 use Rattle.tree_speed.proofs.change.filled.Statement.{statement}
 use Rattle.tree_speed.proofs.change.filled.Tie as tie

@@ -1,0 +1,3 @@
+pub mod flat_tables
+pub mod rooms
+pub mod Boxes

@@ -1,0 +1,2 @@
+pub mod Stride
+pub mod Tables

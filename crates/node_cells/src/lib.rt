@@ -1,1 +1,0 @@
-// No code: how typed values of 256 nodes stand in flat tables of numbers (specs/Tables.antt).

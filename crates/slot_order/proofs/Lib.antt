@@ -1,0 +1,4 @@
+pub mod Members
+pub mod Lent
+pub mod Sorted
+pub mod Steps

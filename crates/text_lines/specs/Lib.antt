@@ -1,0 +1,2 @@
+pub mod spelling
+pub mod words

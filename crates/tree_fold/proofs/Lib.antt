@@ -1,3 +1,0 @@
-pub mod Tables
-pub mod Node
-pub mod Loop

@@ -1,0 +1,3 @@
+pub mod calls
+pub mod remove
+pub mod commit

@@ -1,2 +1,0 @@
--- What an accepted request gives.
-pub use Rattle.tree_verdict.proofs.Accepted.{Accepted, accepted}

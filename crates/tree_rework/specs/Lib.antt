@@ -1,0 +1,4 @@
+pub mod entries
+pub mod boxes
+pub mod worlds
+pub mod preconditions

@@ -1,0 +1,1 @@
+// No code: what the rework of a position needs so that every table holds what it stores.

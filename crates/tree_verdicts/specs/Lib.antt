@@ -1,0 +1,3 @@
+pub mod nodes
+pub mod need
+pub mod marks

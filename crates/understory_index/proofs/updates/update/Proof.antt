@@ -1,0 +1,62 @@
+-- the tables' lengths
+use mathlib.Core.Path.{_≡_, sym, _∙_}
+use lib.ListN.{length}
+use borrow.Author.Tests.{not-false}
+use borrow.Author.Needs.{needs}
+use Rattle.index_state.proofs.Calls.{update-done}
+use Rattle.index_state.specs.Index.{updateCall}
+use Rattle.index_entries.proofs.Keep.{queue-of, queue-room}
+use Rattle.index_entries.proofs.Found.{look-live, look-dead, live-slot}
+use Rattle.index_sound.proofs.Exact.{CountOf, count-tells}
+use Rattle.understory_index.proofs.updates.update.Statement.{statement}
+use Rattle.understory_index.proofs.updates.update.Tie as tie
+
+lens : (c : tie.Start) → (length (c .args .ix .mark) ≡ 512) × (length (c .args .ix .free) ≡ 512) × (length (c .args .ix .dirty) ≡ 512)
+lens c = (search needs, search needs, search needs)
+
+-- what the passed test of soundness tells
+count-here : (c : tie.Else1) → let ix = c .before .before .before .before .before .before .before .before .before .before .before .before .before .before .args .ix in CountOf (ix .mark) (ix .free) (ix .frees) (ix .dirty) (ix .queued) (ix .used)
+count-here c =
+    let S = c .before .before .before .before .before .before .before .before .before .before .before .before .before .before in
+    let ix = S .args .ix in
+    count-tells (ix .mark) (ix .free) (ix .frees) (ix .dirty) (ix .queued) (ix .used) (lens S .0) (lens S .1) (lens S .2) .0
+    (sym (c .before .is-sound .ensures) ∙ not-false (c .before .is-sound .result) (c .if1 .left))
+
+is-sound-requires : tie.Need-is-sound-requires
+is-sound-requires c κs = search needs
+
+returns : tie.Need-returns
+unfolding updateCall
+returns c = rw (updateCall, ← c .before .is-sound .ensures, c .if1 .taken)
+
+look-up-requires : tie.Need-look-up-requires
+look-up-requires c κs = search needs
+
+enum-known-found : tie.Need-enum-known-found
+enum-known-found c = search needs
+
+enum-told : tie.Need-enum-told
+enum-told c = search needs
+
+returns-2 : tie.Need-returns-2
+unfolding updateCall
+returns-2 c = let ix = c .before .before .before .before .before .before .before .before .before .before .before .before .before .before .before .before .before .before .before .before .before .before .before .args .ix in rw (updateCall, ← c .before .before .before .before .before .before .before .before .before .before .is-sound .ensures, c .before .before .before .before .before .before .before .before .before .if1 .left, look-dead (ix .generation) (ix .mark) (ix .payload) (ix .aabb) (ix .kept) (ix .prev) (c .before .before .before .before .before .before .before .before .before .before .before .before .before .before .before .before .before .before .before .before .before .before .before .args .key) (sym (c .before .before .look-up .ensures) ∙ c .enum-told .given .1))
+
+update-entry-requires : tie.Need-update-entry-requires
+update-entry-requires c κs = let S = c .before .before .before .before .before .before .before .before .before .before .before .before .before .before .before .before .before .before .before .before .before .before .before .before .before .before .before .before .before in let ix = S .args .ix in let C = count-here (c .before .before .before .before .before .before .before .before .before .before .before .before .before .before .before) in let L = look-live (ix .generation) (ix .mark) (ix .payload) (ix .aabb) (ix .kept) (ix .prev) (S .args .key) _ (sym (c .before .before .before .before .before .before .before .before .look-up .ensures) ∙ c .before .before .before .before .before .before .found .given .1) in let l = live-slot (ix .generation) (ix .mark) (S .args .key) (L .0) in (l .0, C .queue-fits, lens S .2, queue-room (ix .dirty) (ix .queued) (queue-of (ix .mark) (ix .free) (ix .frees) (ix .dirty) (ix .queued) (ix .used) C (lens S .0)) (lens S .2) (S .args .key .0) (l .0))
+
+returns-3 : tie.Need-returns-3
+returns-3 c = let S = c .before .before .before .before .before .before .before .before .before .before .before .before .before .before .before .before .before .before .before .before .before .before .before .before .before .before .before .before .before .before in let ix = S .args .ix in let L = look-live (ix .generation) (ix .mark) (ix .payload) (ix .aabb) (ix .kept) (ix .prev) (S .args .key) _ (sym (c .before .before .before .before .before .before .before .before .before .look-up .ensures) ∙ c .before .before .before .before .before .before .before .found .given .1) in let T = c .update-entry .ensures in update-done ix (S .args .key) (S .args .aabb) (rw (← c .before .before .before .before .before .before .before .before .before .before .before .before .before .before .before .before .before .is-sound .ensures) (c .before .before .before .before .before .before .before .before .before .before .before .before .before .before .before .before .if1 .left)) (L .0) _ _ _ _ _ _ _ (L .1) (T .0) (T .1 .0) (T .1 .1 .0) (T .1 .1 .1 .0) (T .1 .1 .1 .1 .0) (T .1 .1 .1 .1 .1)
+
+pub update-spec : {M : Type 1} → statement M
+update-spec =
+    tie.close
+    (tie.spec
+    is-sound-requires
+    returns
+    look-up-requires
+    enum-known-found
+    enum-told
+    returns-2
+    update-entry-requires
+    returns-3)
