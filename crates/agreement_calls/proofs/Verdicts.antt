@@ -7,6 +7,7 @@ use native.Mathlib.Numerals.{add-one}
 use native.Mathlib.Omega.{arith}
 use borrow.Author.Tests.{ne-eqb}
 use lib.Dec.{eqb, ltb}
+use lib.Ieee.{Float}
 use lib.IntN.{ℤ}
 use lib.ListN.{length, getD, take}
 use lib.Seq.{take-suc}
@@ -197,14 +198,14 @@ module _ (t : Tree) (p : Plan) (K : Known t p) where
   unfolding refusal numberOf
   flags-refused i f = of-node-and i (known f) no.UnknownFlags
 
-  pub commit-refused : (len : ℕ) → numberIn (commit.commitVerdict t len) ≡ refusal p (call.commit len)
+  pub commit-refused : (room : List Float) → numberIn (commit.commitVerdict t (length room)) ≡ refusal p (call.commit room)
   unfolding refusal numberOf
-  commit-refused len = one-check (held t) accepts (not (ltb len 2048)) no.ShortRoom
+  commit-refused room = one-check (held t) accepts (not (ltb (length room) 2048)) no.ShortRoom
 
-  pub request-refused : (q : call.Request) (asked : NodeFlags) (len : ℕ) → numberIn (request.requestVerdict t asked len) ≡ refusal p (call.request q asked len)
+  pub request-refused : (q : call.Request) (asked : NodeFlags) (room : List ℕ) → numberIn (request.requestVerdict t asked (length room)) ≡ refusal p (call.request q asked room)
   unfolding refusal numberOf
-  request-refused q asked len =
-      three-checks (held t) accepts (known asked) no.UnknownFlags (not (tree.needsCommit t)) no.NeedsCommit (not (ltb len 512)) no.ShortRoom
+  request-refused q asked room =
+      three-checks (held t) accepts (known asked) no.UnknownFlags (not (tree.needsCommit t)) no.NeedsCommit (not (ltb (length room) 512)) no.ShortRoom
       ∙ rw (needs-same t p K)
 
   -- ---- readings: of the tree, of a node, of a node's world record, and of its children with the room for their ids
@@ -221,7 +222,7 @@ module _ (t : Tree) (p : Plan) (K : Known t p) where
   unfolding refusal numberOf
   world-reading-refused r i e = of-node-and i (not (tree.needsCommit t)) no.NeedsCommit ∙ rw (e, needs-same t p K)
 
-  pub children-reading-refused : (i : NodeId) (len : ℕ)
-      → numberIn (checked (set.ofNode t i) (not (ltb len 512)) no.ShortRoom) ≡ refusal p (call.read (call.children-of i len))
+  pub children-reading-refused : (i : NodeId) (room : List ℕ)
+      → numberIn (checked (set.ofNode t i) (not (ltb (length room) 512)) no.ShortRoom) ≡ refusal p (call.read (call.children-of i room))
   unfolding refusal numberOf
-  children-reading-refused i len = of-node-and i (not (ltb len 512)) no.ShortRoom
+  children-reading-refused i room = of-node-and i (not (ltb (length room) 512)) no.ShortRoom

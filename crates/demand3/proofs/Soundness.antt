@@ -33,6 +33,7 @@ use Rattle.plan.specs.Plan.{Plan, empty}
 use Rattle.plan.specs.Calls as call
 use Rattle.plan.specs.Calls.{Call, Reading, Conditions, accept, _else_then_, lowest}
 use Rattle.plan.specs.Demand.{run}
+use Rattle.demand3.proofs.Verdicts.{verdict, accepted, step-is}
 use Rattle.demand3.proofs.Theorem.{Meets, run-meets, meets-fresh, outcome-same}
 
 -- ---- every call keeps soundness, of every sound tree
@@ -40,8 +41,8 @@ use Rattle.demand3.proofs.Theorem.{Meets, run-meets, meets-fresh, outco
 abbrev pub Keeps : Tree → Type 0
 Keeps t = Whole t × SoundTree t
 
-accepted-keeps : (t : Tree) → Whole t → SoundTree t → (c : Call) → tree.verdict t c ≡ is.Accepted → Keeps (tree.accepted t c)
-unfolding tree.verdict tree.accepted
+accepted-keeps : (t : Tree) → Whole t → SoundTree t → (c : Call) → verdict t c ≡ is.Accepted → Keeps (accepted t c)
+unfolding verdict accepted
 accepted-keeps t w S (call.insert o v) e = keep-insert t o v w S e
 accepted-keeps t w S (call.remove i) e = keep-remove t i w S e
 accepted-keeps t w S (call.reparent i o) e = keep-reparent t i o w S e
@@ -51,13 +52,12 @@ accepted-keeps t w S (call.set-local-bounds i r) e = setters.keep-set-bounds t i
 accepted-keeps t w S (call.set-hit-slop i s) e = setters.keep-set-slop t i s w S e
 accepted-keeps t w S (call.set-z-index i z) e = setters.keep-set-level t i z w S e
 accepted-keeps t w S (call.set-flags i f) e = setters.keep-set-flags t i f w S e
-accepted-keeps t w S (call.commit len) e = keep-commit t w S
+accepted-keeps t w S (call.commit room) e = keep-commit t w S
 accepted-keeps t w S (call.read r) e = (w, S)
-accepted-keeps t w S (call.request q asked len) e = (w, S)
+accepted-keeps t w S (call.request q asked room) e = (w, S)
 
 pub step-keeps : (t : Tree) (c : Call) → Whole t → SoundTree t → Keeps (tree.step t c)
-unfolding tree.step
-step-keeps t c w S = setters.keep-if (tree.verdict t c) (tree.accepted t c) t (accepted-keeps t w S c) (w, S)
+step-keeps t c w S = rw (step-is t c) (setters.keep-if (verdict t c) (accepted t c) t (accepted-keeps t w S c) (w, S))
 
 pub run-keeps : (calls : List Call) (t : Tree) → Whole t → SoundTree t → Keeps (run tree.step t calls)
 unfolding run
@@ -95,7 +95,7 @@ reading-not-1 p (call.hit-slop i) = ((λ e. omega arith), tt)
 reading-not-1 p (call.z-index i) = ((λ e. omega arith), tt)
 reading-not-1 p (call.flags i) = ((λ e. omega arith), tt)
 reading-not-1 p (call.parent-of i) = ((λ e. omega arith), tt)
-reading-not-1 p (call.children-of i len) = ((λ e. omega arith), ((λ e. omega arith), tt))
+reading-not-1 p (call.children-of i room) = ((λ e. omega arith), ((λ e. omega arith), tt))
 reading-not-1 p (call.next-depth-first i) = ((λ e. omega arith), tt)
 reading-not-1 p (call.prev-depth-first i) = ((λ e. omega arith), tt)
 reading-not-1 p (call.world-transform i) = ((λ e. omega arith), ((λ e. omega arith), tt))
@@ -113,9 +113,9 @@ call-not-1 p (call.set-local-bounds i r) = ((λ e. omega arith), ((λ e. omega a
 call-not-1 p (call.set-hit-slop i s) = ((λ e. omega arith), ((λ e. omega arith), tt))
 call-not-1 p (call.set-z-index i z) = ((λ e. omega arith), tt)
 call-not-1 p (call.set-flags i f) = ((λ e. omega arith), ((λ e. omega arith), tt))
-call-not-1 p (call.commit len) = ((λ e. omega arith), tt)
+call-not-1 p (call.commit room) = ((λ e. omega arith), tt)
 call-not-1 p (call.read r) = reading-not-1 p r
-call-not-1 p (call.request q asked len) = ((λ e. omega arith), ((λ e. omega arith), ((λ e. omega arith), tt)))
+call-not-1 p (call.request q asked room) = ((λ e. omega arith), ((λ e. omega arith), ((λ e. omega arith), tt)))
 
 pub meets-after : (calls : List Call) → Meets (after calls) (run call.step empty calls)
 meets-after calls = run-meets calls freshTree empty meets-fresh

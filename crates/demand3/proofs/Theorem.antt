@@ -1,11 +1,12 @@
--- Demand 3: over every list of calls from fresh, each call is refused exactly where the plan refuses it and hands out the same id, and every
--- request after them answers what the definition gives on the plan, redacted. The statement is `Demand3` (plan, specs/Demand.antt); the tree's
--- step, outcome and answers are `tree_run`'s, whose clauses are the definitions that the contracts of the calls cite.
+-- Demand 3: over every list of calls from fresh, each call is refused exactly where the plan refuses it and tells the same, and every request after
+-- them is refused where the plan refuses it, and else answers what the definition gives on the plan, redacted. The statement is `Demand3` (plan,
+-- specs/Demand.antt); step, outcome and answer are those of tree_run (specs/Run.antt), read off what the contracts of the public functions cite.
 use mathlib.Core.Path.{_≡_, refl, sym, ap, ap₂, _∙_}
 use mathlib.Core.Bool.{Bool, true, false}
 use mathlib.Core.List.{List, [], _∷_}
 use Prim.Native.Nat.{ℕ, zero, suc}
 use native.Mathlib.Omega.{arith}
+use lib.ListN.{length}
 use Rattle.geometry.specs.Rectangle.{rectEq, insetsEq}
 use Rattle.geometry.specs.Transform.{affineEq}
 use Rattle.geometry_clips.specs.Clips.{constructed, clipEq}
@@ -26,6 +27,8 @@ use Rattle.tree_steps.specs.Setters as set
 use Rattle.tree_steps.specs.Structure as structure
 use Rattle.tree_steps.specs.Requests as request
 use Rattle.tree_run.specs.Run as tree
+use Rattle.demand3.proofs.Verdicts as by
+use Rattle.demand3.proofs.Verdicts.{verdict, accepted, told, step-is, outcome-is, answer-is}
 use Rattle.plan.specs.Plan as plan
 use Rattle.plan.specs.Plan.{Plan, empty}
 use Rattle.plan.specs.Afresh as afresh
@@ -33,8 +36,7 @@ use Rattle.plan.specs.Calls as call
 use Rattle.tree_types.specs.Local as local
 use Rattle.plan.specs.Calls.{Call, Reading, Request}
 use Rattle.plan.specs.Demand as demand
-use Rattle.plan.specs.Demand.{Demand3, run, outcomes}
-use Rattle.plan.proofs.Redaction.{redacted-same}
+use Rattle.plan.specs.Demand.{Demand3, Answer, run, outcomes}
 use Rattle.agreement.proofs.Same.{Known}
 use Rattle.agreement_calls.proofs.Verdicts as refused
 use Rattle.agreement_calls.proofs.Fresh.{known-fresh}
@@ -46,7 +48,6 @@ use Rattle.agreement.proofs.worlds.Entries.{Entered}
 use Rattle.agreement.proofs.worlds.Others as entered
 use Rattle.agreement_calls.proofs.commit.Known.{commit-known, commit-entered}
 use Rattle.agreement_calls.proofs.requests.Answers.{answered, accepted-same}
-use Rattle.agreement_calls.proofs.requests.Tap.{tapOf}
 
 -- ---- what every call keeps
 
@@ -59,7 +60,7 @@ meets-fresh = record { known = known-fresh; entered = entered.entered-fresh }
 
 -- ---- refused alike
 
-reading-same : (t : Tree) (p : Plan) → Known t p → (r : Reading) → numberIn (tree.readingVerdict t r) ≡ call.refusal p (call.read r)
+reading-same : (t : Tree) (p : Plan) → Known t p → (r : Reading) → numberIn (by.readingVerdict t r) ≡ call.refusal p (call.read r)
 reading-same t p K call.needs-commit = refused.reading-refused t p K call.needs-commit refl
 reading-same t p K (call.is-alive i) = refused.reading-refused t p K (call.is-alive i) refl
 reading-same t p K (call.local-transform i) = refused.node-reading-refused t p K (call.local-transform i) i refl
@@ -69,15 +70,15 @@ reading-same t p K (call.hit-slop i) = refused.node-reading-refused t p K (call.
 reading-same t p K (call.z-index i) = refused.node-reading-refused t p K (call.z-index i) i refl
 reading-same t p K (call.flags i) = refused.node-reading-refused t p K (call.flags i) i refl
 reading-same t p K (call.parent-of i) = refused.node-reading-refused t p K (call.parent-of i) i refl
-reading-same t p K (call.children-of i len) = refused.children-reading-refused t p K i len
+reading-same t p K (call.children-of i room) = refused.children-reading-refused t p K i room
 reading-same t p K (call.next-depth-first i) = refused.node-reading-refused t p K (call.next-depth-first i) i refl
 reading-same t p K (call.prev-depth-first i) = refused.node-reading-refused t p K (call.prev-depth-first i) i refl
 reading-same t p K (call.world-transform i) = refused.world-reading-refused t p K (call.world-transform i) i refl
 reading-same t p K (call.world-bounds i) = refused.world-reading-refused t p K (call.world-bounds i) i refl
 reading-same t p K (call.world-hit-bounds i) = refused.world-reading-refused t p K (call.world-hit-bounds i) i refl
 
-pub refused-same : (t : Tree) (p : Plan) → Known t p → (c : Call) → numberIn (tree.verdict t c) ≡ call.refusal p c
-unfolding tree.verdict
+pub refused-same : (t : Tree) (p : Plan) → Known t p → (c : Call) → numberIn (verdict t c) ≡ call.refusal p c
+unfolding verdict
 refused-same t p K (call.insert o v) = refused.insert-refused t p K o v
 refused-same t p K (call.remove i) = refused.remove-refused t p K i
 refused-same t p K (call.reparent i o) = refused.reparent-refused t p K i o
@@ -87,9 +88,9 @@ refused-same t p K (call.set-local-bounds i r) = refused.bounds-refused t p K i 
 refused-same t p K (call.set-hit-slop i s) = refused.slop-refused t p K i s
 refused-same t p K (call.set-z-index i z) = refused.level-refused t p K i z
 refused-same t p K (call.set-flags i f) = refused.flags-refused t p K i f
-refused-same t p K (call.commit len) = refused.commit-refused t p K len
+refused-same t p K (call.commit room) = refused.commit-refused t p K room
 refused-same t p K (call.read r) = reading-same t p K r
-refused-same t p K (call.request q asked len) = refused.request-refused t p K q asked len
+refused-same t p K (call.request q asked room) = refused.request-refused t p K q asked room
 
 -- ---- an accepted call
 
@@ -114,8 +115,8 @@ entered-set : (t : Tree) (b : Bool) (p : Plan) (x : ℕ) (v : LocalNode) (m : pl
 entered-set t true p x v m E = E
 entered-set t false p x v m E = E
 
-accepted-meets : (t : Tree) (p : Plan) → Meets t p → (c : Call) → tree.verdict t c ≡ is.Accepted → Meets (tree.accepted t c) (call.accepted p c)
-unfolding tree.verdict tree.accepted call.accepted
+accepted-meets : (t : Tree) (p : Plan) → Meets t p → (c : Call) → verdict t c ≡ is.Accepted → Meets (accepted t c) (call.accepted p c)
+unfolding verdict accepted call.accepted
 accepted-meets t p M (call.insert o v) e =
     record {
       known = insert.insert-known t p (M .known) o v e;
@@ -169,9 +170,9 @@ accepted-meets t p M (call.set-z-index i z) e =
     record { known = setter.level-known t p (M .known) i z e; entered = entered.entered-level t (p .links) (M .entered) (i .0) z }
 accepted-meets t p M (call.set-flags i f) e =
     record { known = setter.flags-known t p (M .known) i f e; entered = entered.entered-flags t (p .links) (M .entered) (i .0) f }
-accepted-meets t p M (call.commit len) e = record { known = commit-known t p (M .known) (M .entered); entered = commit-entered t p (M .known) (M .entered) }
+accepted-meets t p M (call.commit room) e = record { known = commit-known t p (M .known) (M .entered); entered = commit-entered t p (M .known) (M .entered) }
 accepted-meets t p M (call.read r) e = M
-accepted-meets t p M (call.request q asked len) e = M
+accepted-meets t p M (call.request q asked room) e = M
 
 -- ---- a call: its outcome, and what it leaves
 
@@ -187,9 +188,14 @@ some-number no.NeedsCommit e = omega arith
 some-number no.ShortRoom e = omega arith
 some-number no.Full e = omega arith
 
+pub zero-accepted : (v : Verdict) → numberIn v ≡ 0 → v ≡ is.Accepted
+unfolding numberIn
+zero-accepted is.Accepted e = refl
+zero-accepted (is.Refused r) e = absurd (some-number r e)
+
 -- accepted on the tree where the plan refuses nothing, and refused by the same number
-step-with : (v : Verdict) (n : ℕ) (t : Tree) (p : Plan) (c : Call) → numberIn v ≡ n → Meets t p → (v ≡ is.Accepted → Meets (tree.accepted t c) (call.accepted p c))
-    → Meets (set.treeIf v (tree.accepted t c) t) (call.stepIf n p c)
+step-with : (v : Verdict) (n : ℕ) (t : Tree) (p : Plan) (c : Call) → numberIn v ≡ n → Meets t p → (v ≡ is.Accepted → Meets (accepted t c) (call.accepted p c))
+    → Meets (set.treeIf v (accepted t c) t) (call.stepIf n p c)
 unfolding numberIn
 step-with is.Accepted zero t p c e M done = done refl
 step-with is.Accepted (suc n) t p c e M done = absurd (omega arith)
@@ -197,25 +203,25 @@ step-with (is.Refused r) zero t p c e M done = absurd (some-number r e)
 step-with (is.Refused r) (suc n) t p c e M done = M
 
 pub step-meets : (t : Tree) (p : Plan) → Meets t p → (c : Call) → Meets (tree.step t c) (call.step p c)
-unfolding tree.step call.step
-step-meets t p M c = step-with (tree.verdict t c) (call.refusal p c) t p c (refused-same t p (M .known) c) M (accepted-meets t p M c)
+unfolding call.step
+step-meets t p M c = rw (step-is t c) (step-with (verdict t c) (call.refusal p c) t p c (refused-same t p (M .known) c) M (accepted-meets t p M c))
 
-handed-same : (t : Tree) (p : Plan) → Known t p → (c : Call) → tree.handed t c ≡ call.handed p c
-handed-same t p K (call.insert o v) = ap node.Some (refused.new-id-same t p K)
-handed-same t p K (call.remove i) = refl
-handed-same t p K (call.reparent i o) = refl
-handed-same t p K (call.set-local-transform i a) = refl
-handed-same t p K (call.set-local-clip i c) = refl
-handed-same t p K (call.set-local-bounds i r) = refl
-handed-same t p K (call.set-hit-slop i s) = refl
-handed-same t p K (call.set-z-index i z) = refl
-handed-same t p K (call.set-flags i f) = refl
-handed-same t p K (call.commit len) = refl
-handed-same t p K (call.read r) = refl
-handed-same t p K (call.request q asked len) = refl
+told-same : (t : Tree) (p : Plan) → Known t p → (c : Call) → told t c ≡ call.told p c
+told-same t p K (call.insert o v) = ap call.id (refused.new-id-same t p K)
+told-same t p K (call.remove i) = refl
+told-same t p K (call.reparent i o) = refl
+told-same t p K (call.set-local-transform i a) = refl
+told-same t p K (call.set-local-clip i c) = refl
+told-same t p K (call.set-local-bounds i r) = refl
+told-same t p K (call.set-hit-slop i s) = refl
+told-same t p K (call.set-z-index i z) = refl
+told-same t p K (call.set-flags i f) = refl
+told-same t p K (call.commit room) = refl
+told-same t p K (call.read r) = refl
+told-same t p K (call.request q asked room) = refl
 
-outcome-with : (v : Verdict) (n : ℕ) (t : Tree) (p : Plan) (c : Call) → numberIn v ≡ n → tree.handed t c ≡ call.handed p c
-    → tree.outcomeIf v t c ≡ record { refused = n; id = call.handedIf n p c }
+outcome-with : (v : Verdict) (n : ℕ) (t : Tree) (p : Plan) (c : Call) → numberIn v ≡ n → told t c ≡ call.told p c
+    → by.outcomeIf v (told t c) ≡ record { refused = n; told = call.toldIf n p c }
 unfolding numberIn
 outcome-with is.Accepted zero t p c e h = rw h
 outcome-with is.Accepted (suc n) t p c e h = absurd (omega arith)
@@ -223,33 +229,25 @@ outcome-with (is.Refused r) zero t p c e h = absurd (some-number r e)
 outcome-with (is.Refused r) (suc n) t p c e h = rw e
 
 pub outcome-same : (t : Tree) (p : Plan) → Known t p → (c : Call) → tree.outcome t c ≡ call.outcome p c
-unfolding tree.outcome call.outcome
-outcome-same t p K c = outcome-with (tree.verdict t c) (call.refusal p c) t p c (refused-same t p K c) (handed-same t p K c)
+unfolding call.outcome
+outcome-same t p K c = outcome-is t c ∙ outcome-with (verdict t c) (call.refusal p c) t p c (refused-same t p K c) (told-same t p K c)
 
 -- ---- a request
 
-answered-is : (t : Tree) (asked : NodeFlags) (q : Request) → tree.answered t asked q ≡ answered t asked q
-answered-is t asked (call.hit-test-point pt) = tapped-is (request.hitNode t asked pt)
-  where
-    tapped-is : (b : request.Best) → demand.tapped (tree.tapOf t b) ≡ demand.tapped (tapOf t b)
-    tapped-is request.nobody = refl
-    tapped-is (request.best x) = refl
-answered-is t asked (call.intersect-rect r) = refl
-answered-is t asked (call.containing-point pt) = refl
+-- refused by the same number, or the same found
+pub answer-with : (v : Verdict) (n : ℕ) (x y : Answer) → numberIn v ≡ n → (n ≡ 0 → x ≡ y) → by.answerIf v x ≡ demand.answerIf n y
+unfolding numberIn
+answer-with is.Accepted zero x y e same = same refl
+answer-with is.Accepted (suc n) x y e same = absurd (omega arith)
+answer-with (is.Refused r) zero x y e same = absurd (some-number r e)
+answer-with (is.Refused r) (suc n) x y e same = ap demand.refused e
 
-module _ (t : Tree) (p : Plan) (K : Known t p) (asked : NodeFlags) (len : ℕ) (q : Request) where
-  -- refused by the same number, or answered by the definition
-  request-with : (v : Verdict) (n : ℕ) → numberIn v ≡ n → call.lowest (call.conditionsOfRequest p asked len) ≡ n
-      → tree.answerIf v t asked q ≡ demand.answer (afresh.redact asked p) asked len q
-  unfolding numberIn demand.answer
-  request-with is.Accepted zero e f = answered-is t asked q ∙ accepted-same t p K asked len q f
-  request-with is.Accepted (suc n) e f = absurd (omega arith)
-  request-with (is.Refused r) zero e f = absurd (some-number r e)
-  request-with (is.Refused r) (suc n) e f = ap demand.refused e ∙ sym (ap (λ (m : ℕ). demand.answerIf m p asked q) f) ∙ sym (redacted-same asked p len q)
-
-  request-same : tree.answer t asked len q ≡ demand.answer (afresh.redact asked p) asked len q
-  unfolding tree.answer call.refusal
-  request-same = request-with (request.requestVerdict t asked len) (call.lowest (call.conditionsOfRequest p asked len)) (refused.request-refused t p K q asked len) refl
+request-same : (t : Tree) (p : Plan) → Known t p → (asked : NodeFlags) (room : List ℕ) (q : Request) → tree.answer t asked room q ≡ demand.answer p asked room q
+unfolding demand.answer call.refusal
+request-same t p K asked room q =
+    answer-is t asked room q
+    ∙ answer-with (request.requestVerdict t asked (length room)) (call.lowest (call.conditionsOfRequest p asked (length room))) (answered t asked q)
+    (demand.defined (afresh.redact asked p) asked q) (refused.request-refused t p K q asked room) (accepted-same t p K asked (length room) q)
 
 -- ---- every list of calls
 
@@ -267,5 +265,5 @@ pub demand-3 : Demand3 Tree freshTree tree.step tree.outcome tree.answer
 demand-3 =
     record {
       alike = λ calls. run-alike calls freshTree empty meets-fresh;
-      answered = λ calls asked len q. request-same (run tree.step freshTree calls) (run call.step empty calls) (run-meets calls freshTree empty meets-fresh .known) asked len q;
+      answered = λ calls asked room q. request-same (run tree.step freshTree calls) (run call.step empty calls) (run-meets calls freshTree empty meets-fresh .known) asked room q;
     }

@@ -11,7 +11,6 @@ use Rattle.geometry.specs.declared.point.Point.{Point}
 use Rattle.geometry.specs.Rectangle.{rect}
 use Rattle.index_types.specs.declared.NodeId.{NodeId}
 use Rattle.tree_types.specs.declared.NodeFlags.{NodeFlags}
-use Rattle.tree_types.specs.declared.OptionNodeId.{OptionNodeId}
 use Rattle.tree_types.specs.declared.OptionNodeId.the-variants as node
 use Rattle.tree_types.specs.Local.{flags}
 use Rattle.index_state.specs.Index as index
@@ -24,12 +23,12 @@ use Rattle.tree_run.specs.Run as tree
 use Rattle.tree_rows.proofs.Rows.{after}
 use Rattle.tree_rows.proofs.damage.Damage as rows
 use Rattle.plan.specs.Plan.{Plan, empty}
-use Rattle.plan.specs.Afresh.{worldBounds, candidate, nothing, hit, redact}
+use Rattle.plan.specs.Afresh.{worldBounds, candidate, nothing, hit}
 use Rattle.plan.specs.Calls as call
 use Rattle.plan.specs.Calls.{Call, Outcome, step, outcome}
 use Rattle.plan.specs.Demand.{Answer, tapped, run, outcomes, answer}
 use Rattle.plan.proofs.Cases as cases
-use Rattle.plan.proofs.Rows.{num, point, id, root, child, settle, a, b, c, halfClip}
+use Rattle.plan.proofs.Rows.{num, point, id, root, child, words, settle, a, b, c, halfClip}
 use Rattle.sheet_format.specs.Sheet as sheet
 use Rattle.sheet_format.specs.Sheet.{readSheet}
 use Rattle.sheet_calls.proofs.Rows as sheets
@@ -40,19 +39,20 @@ use Rattle.examples.proofs.Flat.{Flat, no-candidate}
 
 -- ---- words for the rows: a run of the tree from fresh
 
--- each call's refusal, or 0, and the id it hands out
-abbrev pub told : ℕ → OptionNodeId → Outcome
-told n i = record { refused = n; id = i }
+-- a call's refusal, or 0, and nothing besides
+abbrev pub told : ℕ → Outcome
+told n = record { refused = n; told = call.nothing }
 
 abbrev pub answers : List Call → List Outcome
 answers cs = outcomes tree.step tree.outcome freshTree cs
 
 -- a tap of visible, pickable nodes
 abbrev pub tapAt : List Call → Point → Answer
-tapAt cs pt = tree.answer (after cs) (flags 3) 512 (call.hit-test-point pt)
+tapAt cs pt = tree.answer (after cs) (flags 3) (words 512) (call.hit-test-point pt)
 
+-- the id that an insert hands out
 abbrev pub given : NodeId → Outcome
-given i = told 0 (node.Some i)
+given i = record { refused = 0; told = call.id i }
 
 abbrev pub exampleSheet : List ℕ
 exampleSheet = bytes "2\n0 0 0 0 0 0 100 100 0 0 3\n1 1 100 0 0 0 40 20 0 0 3\n0\n4\n90 10 3\n100 10 3\n80 10 3\n200 200 3\n"
@@ -66,14 +66,14 @@ pub record Examples : Type 0 where
   -- Fresh tree: commit gives no damage.
   pub p1 : commitTree freshTree .damage ≡ []
   -- First insert: id (0, 1); committed depth 1.
-  pub p2 : (answers (root ∷ settle ∷ []) ≡ given (id 0 1) ∷ told 0 node.None ∷ [])
+  pub p2 : (answers (root ∷ settle ∷ []) ≡ given (id 0 1) ∷ told 0 ∷ [])
       × (getD (after (root ∷ settle ∷ []) .links .depth) (positionOf (after (root ∷ settle ∷ [])) 0) 0 ≡ 1)
   -- A, child B; remove A; the next inserts give (0, 2), (1, 2).
   pub p3 : answers (root ∷ child a ∷ call.remove a ∷ root ∷ root ∷ [])
-      ≡ given (id 0 1) ∷ given (id 1 1) ∷ told 0 node.None ∷ given (id 0 2) ∷ given (id 1 2) ∷ []
+      ≡ given (id 0 1) ∷ given (id 1 1) ∷ told 0 ∷ given (id 0 2) ∷ given (id 1 2) ∷ []
   -- A under its child, A under A: 4.
   pub p4 : answers (root ∷ child a ∷ call.reparent a (node.Some b) ∷ call.reparent a (node.Some a) ∷ [])
-      ≡ given a ∷ given b ∷ told 4 node.None ∷ told 4 node.None ∷ []
+      ≡ given a ∷ given b ∷ told 4 ∷ told 4 ∷ []
   -- Children B, C; B reparented to the same parent: C, B.
   pub p5 : childrenOf (after (root ∷ child a ∷ child a ∷ call.reparent b (node.Some a) ∷ [])) 0 ≡ c ∷ b ∷ []
   -- The sheet above: place 2 has world box 80, 0, 100, 40; and its answers.
@@ -107,27 +107,27 @@ pub record Examples : Type 0 where
 by-plan : (cs : List Call) (os : List Outcome) → outcomes step outcome empty cs ≡ os → answers cs ≡ os
 by-plan cs os e = demand-3 .alike cs ∙ e
 
-tap-by-plan : (cs : List Call) (pt : Point) (r : Answer) → answer (redact (flags 3) (run step empty cs)) (flags 3) 512 (call.hit-test-point pt) ≡ r → tapAt cs pt ≡ r
+tap-by-plan : (cs : List Call) (pt : Point) (r : Answer) → answer (run step empty cs) (flags 3) (words 512) (call.hit-test-point pt) ≡ r → tapAt cs pt ≡ r
 unfolding after
-tap-by-plan cs pt r e = demand-3 .answered cs (flags 3) 512 (call.hit-test-point pt) ∙ e
+tap-by-plan cs pt r e = demand-3 .answered cs (flags 3) (words 512) (call.hit-test-point pt) ∙ e
 
-ids-2 : answers (root ∷ settle ∷ []) ≡ given (id 0 1) ∷ told 0 node.None ∷ []
+ids-2 : answers (root ∷ settle ∷ []) ≡ given (id 0 1) ∷ told 0 ∷ []
 unfolding cases.computed
-ids-2 = by-plan (root ∷ settle ∷ []) (given (id 0 1) ∷ told 0 node.None ∷ []) refl
+ids-2 = by-plan (root ∷ settle ∷ []) (given (id 0 1) ∷ told 0 ∷ []) refl
 
 ids-3 : answers (root ∷ child a ∷ call.remove a ∷ root ∷ root ∷ [])
-    ≡ given (id 0 1) ∷ given (id 1 1) ∷ told 0 node.None ∷ given (id 0 2) ∷ given (id 1 2) ∷ []
+    ≡ given (id 0 1) ∷ given (id 1 1) ∷ told 0 ∷ given (id 0 2) ∷ given (id 1 2) ∷ []
 unfolding cases.computed
 ids-3 =
     by-plan (root ∷ child a ∷ call.remove a ∷ root ∷ root ∷ [])
-    (given (id 0 1) ∷ given (id 1 1) ∷ told 0 node.None ∷ given (id 0 2) ∷ given (id 1 2) ∷ []) refl
+    (given (id 0 1) ∷ given (id 1 1) ∷ told 0 ∷ given (id 0 2) ∷ given (id 1 2) ∷ []) refl
 
 refused-4 : answers (root ∷ child a ∷ call.reparent a (node.Some b) ∷ call.reparent a (node.Some a) ∷ [])
-    ≡ given a ∷ given b ∷ told 4 node.None ∷ told 4 node.None ∷ []
+    ≡ given a ∷ given b ∷ told 4 ∷ told 4 ∷ []
 unfolding cases.computed
 refused-4 =
     by-plan (root ∷ child a ∷ call.reparent a (node.Some b) ∷ call.reparent a (node.Some a) ∷ [])
-    (given a ∷ given b ∷ told 4 node.None ∷ told 4 node.None ∷ []) refl
+    (given a ∷ given b ∷ told 4 ∷ told 4 ∷ []) refl
 
 sheet-6 : (worldBounds (run step empty (callsIn (readSheet exampleSheet))) 1 ≡ rect (num 80) zero (num 100) (num 40))
     × (output exampleSheet ≡ bytes "4\n1 2 2\n2 2 2\n3 1 1\n4 0 0\n")
@@ -135,7 +135,7 @@ unfolding cases.computed sheets.computed
 sheet-6 = (refl, refl)
 
 -- a tap of the example's tree
-sheet-tap : (x y : ℕ) (r : Answer) → answer (redact (flags 3) (run step empty (callsIn (readSheet exampleSheet)))) (flags 3) 512 (call.hit-test-point (point x y)) ≡ r
+sheet-tap : (x y : ℕ) (r : Answer) → answer (run step empty (callsIn (readSheet exampleSheet))) (flags 3) (words 512) (call.hit-test-point (point x y)) ≡ r
     → tapAt (callsIn (readSheet exampleSheet)) (point x y) ≡ r
 sheet-tap x y r e = tap-by-plan (callsIn (readSheet exampleSheet)) (point x y) r e
 

@@ -19,14 +19,14 @@ use Rattle.tree_types.specs.Local.{flags, noInset}
 use Rattle.link_forest.specs.Forest.{children}
 use Rattle.plan.specs.Plan.{Plan, number, empty, generationFrom}
 use Rattle.plan.specs.Visits.{visits}
-use Rattle.plan.specs.Afresh.{worldPlace, worldBounds, worldHitBounds, nothing, hit, tap, listRect, listPoint, redactLocal, redact}
+use Rattle.plan.specs.Afresh.{worldPlace, worldBounds, worldHitBounds, nothing, hit, tap, listRect, listPoint, redactLocal}
 use Rattle.plan.specs.Calls as call
 use Rattle.plan.specs.Calls.{Call, step}
 use Rattle.plan.specs.Calls.{outcome}
 use Rattle.plan.specs.Demand as demand
 use Rattle.plan.specs.Demand.{outcomes, answer}
 use Rattle.plan.proofs.Rows as rows
-use Rattle.plan.proofs.Rows.{num, point, id, local, ten, turn, shifted, grown, root, child, settle, after, next, listing, needs, told, tapped, a, b, c}
+use Rattle.plan.proofs.Rows.{num, point, id, local, ten, turn, shifted, grown, root, child, floats, words, settle, after, next, listing, needs, told, tapped, a, b, c}
 
 -- a whole local record, and shorter ways to write values
 unfoldable pub rec : Rect → Insets → Affine → Clip → ℤ → ℕ → LocalNode
@@ -121,7 +121,7 @@ pub numbers-of-refusal : (told [] (call.insert (node.Some a) (grown nan)) ≡ 3)
     × (told (root ∷ []) (call.set-flags a (flags 8)) ≡ 6)  -- flags
     × (told (root ∷ []) (call.set-flags b (flags 8)) ≡ 2)  -- flags dead
     × (told (root ∷ []) (call.set-z-index (id 0 2) (pos 0)) ≡ 2)  -- level dead
-    × (told (root ∷ []) (call.read (call.children-of b 0)) ≡ 2)  -- children dead
+    × (told (root ∷ []) (call.read (call.children-of b (words 0))) ≡ 2)  -- children dead
     × (told (root ∷ []) (call.read (call.local-clip a)) ≡ 0)  -- local uncommitted
     × (told (root ∷ child a ∷ call.remove b ∷ root ∷ []) (call.reparent (id 1 2) (node.Some b)) ≡ 3)  -- parent itself dead former child
     × (told [] (call.remove (id 0 0)) ≡ 2)  -- remove dead
@@ -218,11 +218,11 @@ pub redacted : (redactLocal (flags 3) (rec (whole 10) (record { x0 = num 5; y0 =
 unfolding computed
 redacted = (refl, refl)
 
--- outcomes: ids are handed out where a call is accepted
-pub handed-out : (outcomes step outcome empty (root ∷ child b ∷ child a ∷ call.commit 0 ∷ []) ≡ record { refused = 0; id = node.Some a } ∷ record { refused = 3; id = node.None } ∷ record { refused = 0; id = node.Some b } ∷ record { refused = 8; id = node.None } ∷ [])  -- outcomes
-    × (answer (redact (flags 3) (after (root ∷ child a ∷ settle ∷ call.set-flags b (flags 1) ∷ []))) (flags 3) 512 (call.hit-test-point (point 5 5)) ≡ demand.tapped (hit a (a ∷ [])))  -- answer
-    × (answer (redact (flags 3) (after (root ∷ []))) (flags 3) 512 (call.hit-test-point (point 5 5)) ≡ demand.refused 7)  -- answer
-    × (answer (redact (flags 3) (after (root ∷ root ∷ settle ∷ []))) (flags 3) 512 (call.intersect-rect (whole 5)) ≡ demand.listed (a ∷ b ∷ []))  -- answer
+-- outcomes: an id is told where a call is accepted; a refusal is judged on the plan
+pub handed-out : (outcomes step outcome empty (root ∷ child b ∷ child a ∷ call.commit (floats 0) ∷ []) ≡ record { refused = 0; told = call.id a } ∷ record { refused = 3; told = call.nothing } ∷ record { refused = 0; told = call.id b } ∷ record { refused = 8; told = call.nothing } ∷ [])  -- outcomes
+    × (answer (after (root ∷ child a ∷ settle ∷ call.set-flags b (flags 1) ∷ [])) (flags 3) (words 512) (call.hit-test-point (point 5 5)) ≡ demand.tapped (hit a (a ∷ [])))  -- answer
+    × (answer (after (root ∷ [])) (flags 3) (words 512) (call.hit-test-point (point 5 5)) ≡ demand.refused 7)  -- answer
+    × (answer (after (root ∷ root ∷ settle ∷ [])) (flags 3) (words 512) (call.intersect-rect (whole 5)) ≡ demand.listed (a ∷ b ∷ []))  -- answer
 unfolding computed
 handed-out = (refl, refl, refl, refl)
 
@@ -234,15 +234,15 @@ many = (refl, refl)
 
 -- what calls for a commit, and what is refused meanwhile
 pub requests : (needs (root ∷ settle ∷ call.set-local-bounds a (rect fl.zero fl.zero fl.one fl.one) ∷ []) ≡ true)  -- need after bounds
-    × (told (root ∷ settle ∷ call.set-local-bounds a (rect fl.zero fl.zero fl.one fl.one) ∷ []) (call.request (call.intersect-rect (whole 5)) (flags 3) 512) ≡ 7)  -- request 7 after bounds
+    × (told (root ∷ settle ∷ call.set-local-bounds a (rect fl.zero fl.zero fl.one fl.one) ∷ []) (call.request (call.intersect-rect (whole 5)) (flags 3) (words 512)) ≡ 7)  -- request 7 after bounds
     × (needs (root ∷ settle ∷ call.set-hit-slop a (record { x0 = num 5; y0 = num 5; x1 = num 5; y1 = num 5 }) ∷ []) ≡ true)  -- need after slop
-    × (told (root ∷ settle ∷ call.set-hit-slop a (record { x0 = num 5; y0 = num 5; x1 = num 5; y1 = num 5 }) ∷ []) (call.request (call.intersect-rect (whole 5)) (flags 3) 512) ≡ 7)  -- request 7 after slop
+    × (told (root ∷ settle ∷ call.set-hit-slop a (record { x0 = num 5; y0 = num 5; x1 = num 5; y1 = num 5 }) ∷ []) (call.request (call.intersect-rect (whole 5)) (flags 3) (words 512)) ≡ 7)  -- request 7 after slop
     × (needs (root ∷ settle ∷ call.set-local-clip a (is.Square fl.zero fl.zero (num 10) (num 10)) ∷ []) ≡ true)  -- need after clip
-    × (told (root ∷ settle ∷ call.set-local-clip a (is.Square fl.zero fl.zero (num 10) (num 10)) ∷ []) (call.request (call.intersect-rect (whole 5)) (flags 3) 512) ≡ 7)  -- request 7 after clip
+    × (told (root ∷ settle ∷ call.set-local-clip a (is.Square fl.zero fl.zero (num 10) (num 10)) ∷ []) (call.request (call.intersect-rect (whole 5)) (flags 3) (words 512)) ≡ 7)  -- request 7 after clip
     × (needs (root ∷ settle ∷ call.set-local-transform a (shifted 1 0) ∷ []) ≡ true)  -- need after transform
-    × (told (root ∷ settle ∷ call.set-local-transform a (shifted 1 0) ∷ []) (call.request (call.intersect-rect (whole 5)) (flags 3) 512) ≡ 7)  -- request 7 after transform
+    × (told (root ∷ settle ∷ call.set-local-transform a (shifted 1 0) ∷ []) (call.request (call.intersect-rect (whole 5)) (flags 3) (words 512)) ≡ 7)  -- request 7 after transform
     × (needs (root ∷ settle ∷ call.reparent a node.None ∷ []) ≡ true)  -- need after move
-    × (told (root ∷ settle ∷ call.reparent a node.None ∷ []) (call.request (call.intersect-rect (whole 5)) (flags 3) 512) ≡ 7)  -- request 7 after move
+    × (told (root ∷ settle ∷ call.reparent a node.None ∷ []) (call.request (call.intersect-rect (whole 5)) (flags 3) (words 512)) ≡ 7)  -- request 7 after move
     × (told (root ∷ []) (call.read (call.world-transform a)) ≡ 7)  -- world transform
     × (told (root ∷ []) (call.read (call.world-transform b)) ≡ 2)  -- world transform
     × (told (root ∷ []) (call.read (call.world-hit-bounds a)) ≡ 7)  -- world hit bounds
@@ -265,7 +265,7 @@ pub requests : (needs (root ∷ settle ∷ call.set-local-bounds a (rect fl.zero
     × (told (root ∷ []) (call.read (call.next-depth-first a)) ≡ 0)  -- next depth first
     × (told (root ∷ []) (call.read (call.prev-depth-first b)) ≡ 2)  -- prev depth first
     × (told (root ∷ []) (call.read (call.prev-depth-first a)) ≡ 0)  -- prev depth first
-    × (told (root ∷ []) (call.read (call.children-of a 512)) ≡ 0)  -- children
+    × (told (root ∷ []) (call.read (call.children-of a (words 512))) ≡ 0)  -- children
 unfolding computed
 requests = (refl, refl, refl, refl, refl, refl, refl, refl, refl, refl, refl, refl, refl, refl, refl, refl, refl, refl, refl, refl, refl, refl, refl, refl, refl, refl, refl, refl, refl, refl, refl, refl, refl)
 

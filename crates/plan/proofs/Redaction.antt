@@ -1,6 +1,6 @@
 -- The redaction lemma: what is withheld shows in no answer. A node that lacks an asked flag is no candidate and is not listed, and no other
 -- node's world records read its bounds, slop or level.
-use Prim.Native.Nat.{ℕ, zero, suc}
+use Prim.Native.Nat.{ℕ}
 use mathlib.Core.Path.{_≡_, refl}
 use mathlib.Core.Bool.{Bool, true, false, _&&_}
 use mathlib.Core.List.{List, [], _∷_}
@@ -10,11 +10,11 @@ use Rattle.tree_types.specs.declared.NodeFlags.{NodeFlags}
 use Rattle.tree_types.specs.Local.{hasAll}
 use Rattle.link_forest.specs.Forest.{above}
 use Rattle.plan.specs.Lists.{keep}
-use Rattle.plan.specs.Plan.{Plan, nodes, needsCommit}
+use Rattle.plan.specs.Plan.{Plan, nodes}
 use Rattle.plan.specs.Afresh.{placedOn, worldPlace, worldBounds, worldHitBounds, inClips, candidate, larger, Hit, nothing, node, better, largest, tapOf, tap, meetsRect, meetsPoint, inEntryOrder, listRect, listPoint, redactLocal, redact}
 use Rattle.plan.specs.Calls as call
-use Rattle.plan.specs.Calls.{Request, lowest, conditionsOfRequest}
-use Rattle.plan.specs.Demand.{defined, answerIf, answer}
+use Rattle.plan.specs.Calls.{Request}
+use Rattle.plan.specs.Demand.{defined}
 
 -- ---- lists
 
@@ -188,16 +188,8 @@ module _ (asked : NodeFlags) (p : Plan) where
   unfolding redact listPoint inEntryOrder
   point-listing-kept pt = rw (keep-same (meetsPoint r asked pt) (meetsPoint p asked pt) (point-kept pt) (inEntryOrder p))
 
-  defined-kept : (q : Request) → defined r asked q ≡ defined p asked q
-  defined-kept (call.hit-test-point pt) = rw (tap-kept pt)
-  defined-kept (call.intersect-rect q) = rw (rect-listing-kept q)
-  defined-kept (call.containing-point pt) = rw (point-listing-kept pt)
-
-  -- every request, of any flags and with any room, answers the same on a plan and on its redaction
-  pub redacted-same : (len : ℕ) (q : Request) → answer (redact asked p) asked len q ≡ answer p asked len q
-  unfolding redact answer needsCommit
-  redacted-same len q = go (lowest (conditionsOfRequest p asked len))
-    where
-      go : (n : ℕ) → answerIf n r asked q ≡ answerIf n p asked q
-      go zero = defined-kept q
-      go (suc n) = refl
+  -- every request finds the same on a plan and on its redaction
+  pub redacted-same : (q : Request) → defined (redact asked p) asked q ≡ defined p asked q
+  redacted-same (call.hit-test-point pt) = rw (tap-kept pt)
+  redacted-same (call.intersect-rect q) = rw (rect-listing-kept q)
+  redacted-same (call.containing-point pt) = rw (point-listing-kept pt)

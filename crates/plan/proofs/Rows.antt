@@ -4,6 +4,7 @@ use mathlib.Core.Path.{_≡_, refl}
 use mathlib.Core.Bool.{Bool, true, false}
 use mathlib.Core.List.{List, [], _∷_}
 use lib.IntN.{ℤ, pos, negsuc}
+use lib.ListN.{replicate}
 use lib.Ieee.{Float, nan, binary64, round, units, odd, size, span, climb, neg, add, sub, mul, div, eq, le, lt, isNan}
 use Rattle.numbers.specs.Rounded.{zero, one}
 use Rattle.numbers.specs.Number.{minimum, maximum, magnitude}
@@ -53,8 +54,15 @@ root = call.insert node.None ten
 unfoldable pub child : NodeId → Call
 child p = call.insert (node.Some p) ten
 
+-- lent room of so many numbers
+unfoldable pub floats : ℕ → List Float
+floats n = replicate n zero
+
+unfoldable pub words : ℕ → List ℕ
+words n = replicate n 0
+
 unfoldable pub settle : Call
-settle = call.commit 2048
+settle = call.commit (floats 2048)
 
 unfoldable pub after : List Call → Plan
 after cs = run step empty cs
@@ -98,7 +106,7 @@ tapped cs pt = tap (after cs) (flags 3) pt
 
 -- what the rows compute through
 unfoldable pub computed : Unit {0}
-unfolding num point id local ten turn shifted grown root child settle after next listing needs told tapped a b c run step refusal lowest accepted
+unfolding num point id local ten turn shifted grown root child floats words settle after next listing needs told tapped a b c run step refusal lowest accepted
     inserted removed moved committed needsCommit starts visits enter keep any joined upTo insertSorted sorted pre post has cat under remove roots spot
     hasAll finiteLocal stored finiteRect finiteInsets finiteAffine finiteClip finiteClipRect affineEq rectEq insetsEq clipEq clipRectEq constructed
     clipRect clipRadii fitted shaped quadrant excess insideRounded inside ordered intersection contains plusInsets zeroInsets mapped product inverse
@@ -128,7 +136,7 @@ pub needed : (needs (root ∷ []) ≡ true)
     × (needs (root ∷ settle ∷ call.set-z-index a (negsuc 4) ∷ call.set-flags a (flags 0) ∷ []) ≡ false)
     × (needs (root ∷ settle ∷ call.set-local-transform a (shifted 1 0) ∷ call.set-local-transform a identity ∷ []) ≡ true)  -- set and set back
     × (needs (root ∷ settle ∷ call.set-local-bounds a (rect (neg zero) zero (num 10) (num 10)) ∷ []) ≡ false)  -- −0 over +0
-    × (needs (root ∷ call.commit 2047 ∷ []) ≡ true)  -- a refused commit
+    × (needs (root ∷ call.commit (floats 2047) ∷ []) ≡ true)  -- a refused commit
     × (needs (root ∷ settle ∷ call.reparent a node.None ∷ []) ≡ true)  -- a root moved to no parent is moved
     × (needs (root ∷ settle ∷ call.set-local-transform a (shifted 1 0) ∷ settle ∷ []) ≡ false)  -- a second commit
     × (needs (root ∷ root ∷ settle ∷ call.remove a ∷ settle ∷ []) ≡ false)
@@ -137,15 +145,15 @@ needed = (refl, refl, refl, refl, refl, refl, refl, refl, refl, refl, refl)
 
 -- the lowest number that applies
 pub refusals : (told [] (call.insert (node.Some a) (grown nan)) ≡ 3)
-    × (told [] (call.commit 2047) ≡ 8)
+    × (told [] (call.commit (floats 2047)) ≡ 8)
     × (told (root ∷ []) (call.read (call.world-bounds b)) ≡ 2)
     × (told (root ∷ []) (call.read (call.world-bounds a)) ≡ 7)
     × (told (root ∷ []) (call.read (call.is-alive b)) ≡ 0)
-    × (told (root ∷ []) (call.read (call.children-of a 511)) ≡ 8)
-    × (told (root ∷ []) (call.request (call.hit-test-point (point 0 0)) (flags 8) 0) ≡ 6)
-    × (told (root ∷ []) (call.request (call.hit-test-point (point 0 0)) (flags 3) 0) ≡ 7)
-    × (told (root ∷ settle ∷ []) (call.request (call.hit-test-point (point 0 0)) (flags 3) 511) ≡ 8)
-    × (told (root ∷ settle ∷ []) (call.request (call.hit-test-point (point 0 0)) (flags 3) 512) ≡ 0)
+    × (told (root ∷ []) (call.read (call.children-of a (words 511))) ≡ 8)
+    × (told (root ∷ []) (call.request (call.hit-test-point (point 0 0)) (flags 8) (words 0)) ≡ 6)
+    × (told (root ∷ []) (call.request (call.hit-test-point (point 0 0)) (flags 3) (words 0)) ≡ 7)
+    × (told (root ∷ settle ∷ []) (call.request (call.hit-test-point (point 0 0)) (flags 3) (words 511)) ≡ 8)
+    × (told (root ∷ settle ∷ []) (call.request (call.hit-test-point (point 0 0)) (flags 3) (words 512)) ≡ 0)
     × (told (root ∷ []) (call.reparent b (node.Some b)) ≡ 2)
     × (told (root ∷ child a ∷ call.remove b ∷ []) (call.reparent a (node.Some b)) ≡ 3)
 unfolding computed

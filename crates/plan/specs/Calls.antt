@@ -1,8 +1,12 @@
--- Every call, by its name and arguments, of lent room the length in numbers; its refusal on the plan and what it leaves of the plan.
+-- Every call, by its name and arguments, lent room as it stands before the call; its refusal on the plan, what it leaves of the plan, and what it
+-- tells. Of lent room the plan hears the length alone.
 use Prim.Native.Nat.{ℕ, zero, suc}
 use mathlib.Core.Bool.{Bool, not, cond}
+use mathlib.Core.List.{List}
 use lib.Dec.{ltb}
+use lib.Ieee.{Float}
 use lib.IntN.{ℤ}
+use lib.ListN.{length}
 use Rattle.geometry.specs.declared.point.Point.{Point}
 use Rattle.geometry.specs.declared.rect.Rect.{Rect}
 use Rattle.geometry.specs.declared.insets.Insets.{Insets}
@@ -15,7 +19,6 @@ use Rattle.index_types.specs.declared.NodeId.{NodeId}
 use Rattle.tree_types.specs.declared.NodeFlags.{NodeFlags}
 use Rattle.tree_types.specs.declared.LocalNode.{LocalNode}
 use Rattle.tree_types.specs.declared.OptionNodeId.{OptionNodeId}
-use Rattle.tree_types.specs.declared.OptionNodeId.the-variants as node
 use Rattle.tree_types.specs.Local.{known, finiteLocal, withTransform, withClip, withBounds, withSlop, withLevel, withFlags}
 use Rattle.plan.specs.Plan.{Plan, live, parentLive, atOrBelow, full, needsCommit, newId, inserted, removed, moved, setUnless, withLocal, markAlone, markTransform, markClip}
 use Rattle.plan.specs.Visits.{committed}
@@ -35,7 +38,7 @@ pub data Reading : Type 0 where
   z-index : NodeId → Reading
   flags : NodeId → Reading
   parent-of : NodeId → Reading
-  children-of : NodeId → ℕ → Reading
+  children-of : NodeId → List ℕ → Reading  -- with its room
   next-depth-first : NodeId → Reading
   prev-depth-first : NodeId → Reading
   world-transform : NodeId → Reading
@@ -52,9 +55,9 @@ pub data Call : Type 0 where
   set-hit-slop : NodeId → Insets → Call
   set-z-index : NodeId → ℤ → Call
   set-flags : NodeId → NodeFlags → Call
-  commit : ℕ → Call
+  commit : List Float → Call  -- with its room
   read : Reading → Call
-  request : Request → NodeFlags → ℕ → Call  -- with the flags it asks for and its room
+  request : Request → NodeFlags → List ℕ → Call  -- with the flags it asks for and its room
 
 -- ---- "The lowest number that applies is given": of the conditions in a row, the number of the first that fails, or 0
 
@@ -67,7 +70,7 @@ unfoldable pub lowest : Conditions → ℕ
 lowest accept = 0
 lowest (holds else n then rest) = cond holds (lowest rest) n
 
--- 8: under 512 rectangles of four numbers, under 256 ids of two
+-- 8, by a room's length in numbers: under 512 rectangles of four, under 256 ids of two
 abbrev pub roomForRects : ℕ → Bool
 roomForRects len = not (ltb len 2048)
 
@@ -93,7 +96,7 @@ conditionsOfReading p (hit-slop i) = ofNode p i
 conditionsOfReading p (z-index i) = ofNode p i
 conditionsOfReading p (flags i) = ofNode p i
 conditionsOfReading p (parent-of i) = ofNode p i
-conditionsOfReading p (children-of i len) = live p i else 2 then roomForIds len else 8 then accept
+conditionsOfReading p (children-of i room) = live p i else 2 then roomForIds (length room) else 8 then accept
 conditionsOfReading p (next-depth-first i) = ofNode p i
 conditionsOfReading p (prev-depth-first i) = ofNode p i
 conditionsOfReading p (world-transform i) = ofWorld p i
@@ -112,9 +115,9 @@ conditions p (set-local-bounds i r) = live p i else 2 then finiteRect r else 5 t
 conditions p (set-hit-slop i s) = live p i else 2 then finiteInsets s else 5 then accept
 conditions p (set-z-index i z) = ofNode p i
 conditions p (set-flags i f) = live p i else 2 then known f else 6 then accept
-conditions p (commit len) = roomForRects len else 8 then accept
+conditions p (commit room) = roomForRects (length room) else 8 then accept
 conditions p (read r) = conditionsOfReading p r
-conditions p (request q asked len) = conditionsOfRequest p asked len
+conditions p (request q asked room) = conditionsOfRequest p asked (length room)
 
 unfoldable pub refusal : Plan → Call → ℕ
 refusal p c = lowest (conditions p c)
@@ -139,9 +142,9 @@ accepted p (set-hit-slop i s) =
     setUnless (insetsEq (v .«hit_slop») s) p (i .0) (withSlop s v) markAlone
 accepted p (set-z-index i z) = withLocal p (i .0) (withLevel z (p .local (i .0))) (p .mark (i .0))
 accepted p (set-flags i f) = withLocal p (i .0) (withFlags f (p .local (i .0))) (p .mark (i .0))
-accepted p (commit len) = committed p
+accepted p (commit room) = committed p
 accepted p (read r) = p
-accepted p (request q asked len) = p
+accepted p (request q asked room) = p
 
 -- "refused calls .. change nothing"
 abbrev pub stepIf : ℕ → Plan → Call → Plan
@@ -151,29 +154,35 @@ stepIf (suc n) p c = p
 unfoldable pub step : Plan → Call → Plan
 step p c = stepIf (refusal p c) p c
 
--- the id that an accepted insert hands out
-abbrev pub handed : Plan → Call → OptionNodeId
-handed p (insert parent v) = node.Some (newId p)
-handed p (remove i) = node.None
-handed p (reparent i parent) = node.None
-handed p (set-local-transform i t) = node.None
-handed p (set-local-clip i c) = node.None
-handed p (set-local-bounds i r) = node.None
-handed p (set-hit-slop i s) = node.None
-handed p (set-z-index i z) = node.None
-handed p (set-flags i f) = node.None
-handed p (commit len) = node.None
-handed p (read r) = node.None
-handed p (request q asked len) = node.None
+-- ---- what an accepted call tells: an insert the id that it hands out
 
-abbrev pub handedIf : ℕ → Plan → Call → OptionNodeId
-handedIf zero p c = handed p c
-handedIf (suc n) p c = node.None
+pub data Told : Type 0 where
+  nothing : Told
+  id : NodeId → Told
 
--- a call's outcome: its refusal, or 0, and the id it hands out
+abbrev pub told : Plan → Call → Told
+told p (insert parent v) = id (newId p)
+told p (remove i) = nothing
+told p (reparent i parent) = nothing
+told p (set-local-transform i t) = nothing
+told p (set-local-clip i c) = nothing
+told p (set-local-bounds i r) = nothing
+told p (set-hit-slop i s) = nothing
+told p (set-z-index i z) = nothing
+told p (set-flags i f) = nothing
+told p (commit room) = nothing
+told p (read r) = nothing
+told p (request q asked room) = nothing
+
+-- "A refusal returns its number alone"
+abbrev pub toldIf : ℕ → Plan → Call → Told
+toldIf zero p c = told p c
+toldIf (suc n) p c = nothing
+
+-- a call's outcome: its refusal, or 0, and what it tells
 pub record Outcome : Type 0 where
   pub refused : ℕ
-  pub id : OptionNodeId
+  pub told : Told
 
 unfoldable pub outcome : Plan → Call → Outcome
-outcome p c = record { refused = refusal p c; id = handedIf (refusal p c) p c }
+outcome p c = record { refused = refusal p c; told = toldIf (refusal p c) p c }

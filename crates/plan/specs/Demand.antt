@@ -1,10 +1,11 @@
--- Demand 3 as a statement, for any tree that calls are made on: over every list of calls from fresh, each call is refused exactly where the
--- plan refuses it and hands out the same id; and every request after them answers what the definition gives on the plan, redacted.
--- What it says of a tree hangs on the step, outcome and answers that it is given: they have to be what the contracts of the calls cite (tree_run,
--- specs/Run.antt; tree_contracts proves that they are). That an answer stands in front of the lent room, and what stands behind it, is those contracts' part.
+-- Demand 3 as a statement, for any tree that calls are made on, over every list of calls from fresh: each call is refused exactly where the plan
+-- refuses it, with the same number, and tells the same; and every request after them is refused where the plan refuses it, and else answers what
+-- the definition gives on the plan, redacted. Of which tree this is said is settled by `fresh`, `step`, `outcome` and `answers`: tree_run
+-- (specs/Run.antt) reads them off what the contracts of the public functions cite, and demand3 (proofs/Theorem.antt) proves it of those.
 use Prim.Native.Nat.{ℕ, zero, suc}
 use mathlib.Core.Path.{_≡_}
 use mathlib.Core.List.{List, [], _∷_}
+use lib.ListN.{length}
 use Rattle.index_types.specs.declared.NodeId.{NodeId}
 use Rattle.tree_types.specs.declared.NodeFlags.{NodeFlags}
 use Rattle.plan.specs.Plan.{Plan, empty}
@@ -22,7 +23,7 @@ unfoldable pub outcomes : {S : Type 0} → (S → Call → S) → (S → Call �
 outcomes step outcome s [] = []
 outcomes step outcome s (c ∷ cs) = outcome s c ∷ outcomes step outcome (step s c) cs
 
--- ---- requests
+-- ---- requests: a refusal's number, what a tap finds, or the ids of a listing in order
 
 pub data Answer : Type 0 where
   refused : ℕ → Answer
@@ -34,15 +35,16 @@ defined p asked (call.hit-test-point pt) = tapped (tap p asked pt)
 defined p asked (call.intersect-rect r) = listed (listRect p asked r)
 defined p asked (call.containing-point pt) = listed (listPoint p asked pt)
 
-abbrev pub answerIf : ℕ → Plan → NodeFlags → Request → Answer
-answerIf zero p asked q = defined p asked q
-answerIf (suc n) p asked q = refused (suc n)
+-- the refusal of that number, or at 0 what is found
+abbrev pub answerIf : ℕ → Answer → Answer
+answerIf zero found = found
+answerIf (suc n) found = refused (suc n)
 
--- the definition on a plan
-unfoldable pub answer : Plan → NodeFlags → ℕ → Request → Answer
-answer p asked len q = answerIf (lowest (conditionsOfRequest p asked len)) p asked q
+-- "refusals are judged on it", the plan; what is found, on the plan redacted
+unfoldable pub answer : Plan → NodeFlags → List ℕ → Request → Answer
+answer p asked room q = answerIf (lowest (conditionsOfRequest p asked (length room))) (defined (redact asked p) asked q)
 
-pub record Demand3 (Tree : Type 0) (fresh : Tree) (step : Tree → Call → Tree) (outcome : Tree → Call → Outcome) (answers : Tree → NodeFlags → ℕ → Request → Answer) : Type 0 where
+pub record Demand3 (Tree : Type 0) (fresh : Tree) (step : Tree → Call → Tree) (outcome : Tree → Call → Outcome) (answers : Tree → NodeFlags → List ℕ → Request → Answer) : Type 0 where
   pub alike : (calls : List Call) → outcomes step outcome fresh calls ≡ outcomes call.step call.outcome empty calls
-  pub answered : (calls : List Call) (asked : NodeFlags) (len : ℕ) (q : Request)
-      → answers (run step fresh calls) asked len q ≡ answer (redact asked (run call.step empty calls)) asked len q
+  pub answered : (calls : List Call) (asked : NodeFlags) (room : List ℕ) (q : Request)
+      → answers (run step fresh calls) asked room q ≡ answer (run call.step empty calls) asked room q

@@ -8,13 +8,13 @@ use native.Mathlib.Omega.{arith}
 use lib.Dec.{eqb}
 use lib.IntN.{ℤ, pos, negsuc, natAbs}
 use lib.Signed.{leZ}
-use lib.ListN.{length, take, drop, getD, length-append, take-append-drop}
+use lib.ListN.{length, take, drop, getD, length-append, length-replicate, take-append-drop}
 use lib.Seq.{length-take-le, take-suc, take-length}
 use borrow.Author.Tests.{eq-eqb, ne-eqb, lt-leb, leb-true}
+use Rattle.numbers.specs.Rounded as fl
 use Rattle.numbers.proofs.Bools.{clash, and-right}
 use Rattle.tree_types.specs.declared.NodeFlags.{NodeFlags}
 use Rattle.tree_types.specs.declared.LocalNode.{LocalNode}
-use Rattle.tree_types.specs.declared.OptionNodeId.the-variants as node
 use Rattle.tree_types.specs.Local.{known, finiteLocal}
 use Rattle.link_forest.specs.Forest.{Forest, leaf, pre, has, either}
 use Rattle.link_forest.proofs.Counting.{has-cat, has-under}
@@ -28,7 +28,7 @@ use Rattle.plan.specs.Calls.{Call, Outcome, lowest, refusal, accepted, step, ou
 use Rattle.plan.specs.Demand.{run, outcomes}
 use Rattle.sheet_format.specs.declared.PlaceLine.{PlaceLine}
 use Rattle.sheet_format.specs.Sheet.{Sheet, Rule, placeOf, placeRule, parentEarlier, clipRule}
-use Rattle.sheet_calls.specs.Calls.{localOf, clipFor, parentAt, insertOf, insertsFrom, callsOf}
+use Rattle.sheet_calls.specs.Calls.{localOf, clipFor, parentAt, insertOf, insertsFrom, room, callsOf}
 use Rattle.sheet_calls.specs.Answers.{planOf}
 use Rattle.sheet_calls.specs.Good.{Fair, Passes, Good}
 use Rattle.sheet_calls.proofs.Finite.{place-ranges, clip-for-finite, local-finite, local-known}
@@ -175,7 +175,7 @@ module _ (clips : List (List ℤ)) (C : Clips clips) (k : ℕ) (p : Plan) (G : G
       let q = placeOf row in
       subst (λ (z : Plan). Grown (suc k) z) (sym row-step) (grown-insert k p (natAbs (q .parent)) (localOf q (clipFor clips (suc k))) G le)
 
-  pub row-outcome : outcome p (insertOf clips (suc k) (placeOf row)) ≡ record { refused = 0; id = node.Some record { 0 = k; 1 = 1 } }
+  pub row-outcome : outcome p (insertOf clips (suc k) (placeOf row)) ≡ record { refused = 0; told = call.id (record { 0 = k; 1 = 1 }) }
   unfolding outcome insertOf
   row-outcome = rw (row-accepted, new-id k p G)
 
@@ -195,16 +195,24 @@ rows-grown clips C k p G before (row ∷ rows) b few P (suc j) le =
 -- what the inserts of n places answer, from the slot k on
 unfoldable pub handedOut : ℕ → ℕ → List Outcome
 handedOut k zero = []
-handedOut k (suc n) = record { refused = 0; id = node.Some record { 0 = k; 1 = 1 } } ∷ handedOut (suc k) n
+handedOut k (suc n) = record { refused = 0; told = call.id (record { 0 = k; 1 = 1 }) } ∷ handedOut (suc k) n
 
 -- a commit with room is never refused
-pub commit-outcome : (p : Plan) → outcome p (call.commit 2048) ≡ record { refused = 0; id = node.None }
-unfolding outcome refusal lowest
-commit-outcome p = refl
+pub room-long : length room ≡ 2048
+unfolding room
+room-long = length-replicate 2048 fl.zero
+
+pub commit-accepted : (p : Plan) → refusal p (call.commit room) ≡ 0
+unfolding refusal lowest
+commit-accepted p = rw room-long
+
+pub commit-outcome : (p : Plan) → outcome p (call.commit room) ≡ record { refused = 0; told = call.nothing }
+unfolding outcome
+commit-outcome p = rw (commit-accepted p)
 
 pub calls-outcomes : (clips : List (List ℤ)) → Clips clips → (k : ℕ) (p : Plan) → Grown k p → (before rows : List (List ℤ)) → length before ≡ k → k + length rows ≤ 256
     → Passes placeRule before rows
-    → outcomes step outcome p (insertsFrom clips (suc k) rows ++ call.commit 2048 ∷ []) ≡ handedOut k (length rows) ++ record { refused = 0; id = node.None } ∷ []
+    → outcomes step outcome p (insertsFrom clips (suc k) rows ++ call.commit room ∷ []) ≡ handedOut k (length rows) ++ record { refused = 0; told = call.nothing } ∷ []
 unfolding outcomes insertsFrom handedOut Passes
 calls-outcomes clips C k p G before [] b few P = rw (commit-outcome p)
 calls-outcomes clips C k p G before (row ∷ rows) b few P =
@@ -259,12 +267,12 @@ module _ (s : Sheet) (g : Good s) where
       ∙ inserts-append (s .clips) 1 (take j (s .places)) (getD (s .places) j [])
       ∙ ap (λ (n : ℕ). firstCalls j ++ insertOf (s .clips) n (placeOf (getD (s .places) j [])) ∷ []) (omega (arith, length-take-le j (s .places) (omega arith)))
 
-  pub all-calls : callsOf s ≡ firstCalls (length (s .places)) ++ call.commit 2048 ∷ []
+  pub all-calls : callsOf s ≡ firstCalls (length (s .places)) ++ call.commit room ∷ []
   unfolding callsOf
   all-calls = rw (take-length (s .places))
 
   -- every call of the sheet is accepted, and place k is the node (k − 1, 1)
-  pub sheet-outcomes : outcomes step outcome empty (callsOf s) ≡ handedOut 0 (length (s .places)) ++ record { refused = 0; id = node.None } ∷ []
+  pub sheet-outcomes : outcomes step outcome empty (callsOf s) ≡ handedOut 0 (length (s .places)) ++ record { refused = 0; told = call.nothing } ∷ []
   unfolding callsOf
   sheet-outcomes = calls-outcomes (s .clips) clips-pass 0 empty grown-empty [] (s .places) refl (omega (arith, g .few-places)) (g .places)
 
@@ -279,14 +287,14 @@ pub committed-clean : (p : Plan) → needsCommit (committed p) ≡ false
 unfolding needsCommit committed
 committed-clean p = rw (none-marked (pre (p .links)))
 
-pub commit-step : (p : Plan) → step p (call.commit 2048) ≡ committed p
-unfolding step refusal lowest accepted
-commit-step p = refl
+pub commit-step : (p : Plan) → step p (call.commit room) ≡ committed p
+unfolding step accepted
+commit-step p = rw (commit-accepted p)
 
 module _ (s : Sheet) where
   pub plan-committed : planOf s ≡ committed (run step empty (insertsFrom (s .clips) 1 (s .places)))
   unfolding planOf callsOf run
-  plan-committed = run-append step empty (insertsFrom (s .clips) 1 (s .places)) (call.commit 2048 ∷ []) ∙ commit-step (run step empty (insertsFrom (s .clips) 1 (s .places)))
+  plan-committed = run-append step empty (insertsFrom (s .clips) 1 (s .places)) (call.commit room ∷ []) ∙ commit-step (run step empty (insertsFrom (s .clips) 1 (s .places)))
 
   -- any request for known flags is accepted then, with room for 256 ids
   pub request-accepted : (asked : NodeFlags) → known asked ≡ true → lowest (call.conditionsOfRequest (planOf s) asked 512) ≡ 0

@@ -6,6 +6,8 @@ use mathlib.Core.List.{List, [], _∷_, _++_}
 use lib.Dec.{ltb}
 use lib.IntN.{ℤ, pos, negℤ, natAbs}
 use lib.Ieee.{Float, binary64, ofInt}
+use lib.ListN.{replicate}
+use Rattle.numbers.specs.Rounded as fl
 use Rattle.geometry.specs.declared.insets.Insets.{Insets}
 use Rattle.geometry.specs.Rectangle.{rect}
 use Rattle.geometry.specs.declared.affine.Affine.{Affine}
@@ -100,5 +102,9 @@ unfoldable pub insertsFrom : List (List ℤ) → ℕ → List (List ℤ) → Lis
 insertsFrom clips k [] = []
 insertsFrom clips k (zs ∷ places) = insertOf clips k (placeOf zs) ∷ insertsFrom clips (suc k) places
 
+-- the commit's room: 512 rectangles of zeros
+unfoldable pub room : List Float
+room = replicate 2048 fl.zero
+
 unfoldable pub callsOf : Sheet → List Call
-callsOf s = insertsFrom (s .clips) 1 (s .places) ++ call.commit 2048 ∷ []
+callsOf s = insertsFrom (s .clips) 1 (s .places) ++ call.commit room ∷ []

@@ -5,8 +5,9 @@ use mathlib.Core.List.{List}
 use lib.IntN.{ℤ}
 use Rattle.sheet_format.specs.Sheet.{placeWidth}
 use Rattle.tree_steps.specs.Commit.{commitTree}
-use Rattle.tree_run.specs.Run as tree
+use Rattle.demand3.proofs.Verdicts.{verdict, accepted}
 use Rattle.plan.specs.Calls as call
+use Rattle.sheet_calls.specs.Calls.{room}
 use Rattle.sheet_calls.specs.Good.{Good}
 use Rattle.sheet_laws.specs.Built.{treeUpTo, treeOf}
 use Rattle.sheet_laws.proofs.Tree.{commit-last}
@@ -16,5 +17,5 @@ use Rattle.sheet_tree.specs.places.Rows.{sheetOf}
 -- the commit is the last call
 pub committed : (places : List ℤ) (n : ℕ) (clips : List ℤ) (m : ℕ) → Good (sheetOf places n clips m)
     → commitTree (treeUpTo (sheetOf places n clips m) n) .tree ≡ treeOf (sheetOf places n clips m)
-unfolding tree.accepted
-committed places n clips m g = sym (subst (λ (k : ℕ). treeOf (sheetOf places n clips m) ≡ tree.accepted (treeUpTo (sheetOf places n clips m) k) (call.commit 2048)) (rows-many placeWidth n places) (commit-last (sheetOf places n clips m) g))
+unfolding accepted
+committed places n clips m g = sym (subst (λ (k : ℕ). treeOf (sheetOf places n clips m) ≡ accepted (treeUpTo (sheetOf places n clips m) k) (call.commit room)) (rows-many placeWidth n places) (commit-last (sheetOf places n clips m) g))

@@ -1,1 +1,1 @@
-// No code: any list of calls on the tree's record, clause by clause the definitions that the contracts of the calls cite.
+// No code: any list of calls on the tree, read off what the contracts of the calls cite, and what a caller is told.

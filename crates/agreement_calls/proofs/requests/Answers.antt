@@ -43,36 +43,7 @@ told p asked len e = go (known asked) (needsCommit p) (not (ltb len 512)) e
     go true true c e = absurd (omega arith)
     go false b c e = absurd (omega arith)
 
-pub answer-accepted : (p : Plan) (asked : NodeFlags) (len : ℕ) (q : Request) → lowest (conditionsOfRequest p asked len) ≡ 0 → answer p asked len q ≡ defined p asked q
-unfolding answer
-answer-accepted p asked len q e = ap (λ (n : ℕ). answerIf n p asked q) e
-
--- "every tap and listing equals the definition on the plan", redacted: where the plan refuses nothing
+-- what an accepted request finds is the definition on the redacted plan
 pub accepted-same : (t : Tree) (p : Plan) → Known t p → (asked : NodeFlags) (len : ℕ) (q : Request) → lowest (conditionsOfRequest p asked len) ≡ 0
-    → answered t asked q ≡ answer (redact asked p) asked len q
-accepted-same t p K asked len q e =
-    answered-same t p K (told p asked len e .1) asked q ∙ sym (answer-accepted p asked len q e) ∙ sym (redacted-same asked p len q)
-
--- ---- each request by itself, of known flags: with others every request is refused
-
-module _ (t : Tree) (p : Plan) (K : Known t p) (Q : needsCommit p ≡ false) (asked : NodeFlags) (known-asked : known asked ≡ true) where
-  -- of the plan and of its redaction
-  room : (r : Plan) → needsCommit r ≡ false → lowest (conditionsOfRequest r asked 512) ≡ 0
-  unfolding lowest
-  room r n = rw (known-asked, n)
-
-  redacted-quiet : needsCommit (redact asked p) ≡ false
-  unfolding redact needsCommit
-  redacted-quiet = Q
-
-  pub answered-redacted : (q : Request) → answered t asked q ≡ defined (redact asked p) asked q
-  answered-redacted q = accepted-same t p K asked 512 q (room p Q) ∙ answer-accepted (redact asked p) asked 512 q (room (redact asked p) redacted-quiet)
-
-  pub tap-redacted : (pt : Point) → tapOf t (hitNode t asked pt) ≡ tap (redact asked p) asked pt
-  tap-redacted pt = let e = answered-redacted (call.hit-test-point pt) in cc
-
-  pub rect-redacted : (r : Rect) → rectNodes t asked r ≡ listRect (redact asked p) asked r
-  rect-redacted r = let e = answered-redacted (call.intersect-rect r) in cc
-
-  pub point-redacted : (pt : Point) → pointNodes t asked pt ≡ listPoint (redact asked p) asked pt
-  point-redacted pt = let e = answered-redacted (call.containing-point pt) in cc
+    → answered t asked q ≡ defined (redact asked p) asked q
+accepted-same t p K asked len q e = answered-same t p K (told p asked len e .1) asked q ∙ sym (redacted-same asked p q)

@@ -9,7 +9,7 @@ use lib.ListN.{length, getD}
 use Rattle.tree_state.specs.declared.Tree.{Tree}
 use Rattle.tree_state.specs.Tree.{positionOf}
 use Rattle.tree_steps.specs.Requests.{Best, pathTo}
-use Rattle.tree_run.specs.Run as run
+use Rattle.agreement_calls.proofs.requests.Tap as tree
 use Rattle.tree_sound.specs.Parts.{Sized}
 use Rattle.tree_verdicts.proofs.nodes.Nodes.{Held}
 use Rattle.tree_taps.specs.Taps.{Shown, bestOf, pathAt}
@@ -42,7 +42,7 @@ module _ (t : Tree) (S : Sized t) (H : Held t) where
       ∙ path-length (idOf (t .slots .generation)) x (back (getD ds at 0) xs ds at)
       ∙ back-count n ds ld (H .depths) xs lx at (getD ds at 0) h (deep-one n ds ld (H .depths) at h) (omega arith)
 
-  pub answer-is : (b : ℕ) (r : Best) → bestOf b ≡ r → ((b ≡ 256 → ⊥) → Shown (t .links .order) n b) → answerAt (t .links .order) (t .links .depth) n b ≡ answered (run.tapOf t r)
+  pub answer-is : (b : ℕ) (r : Best) → bestOf b ≡ r → ((b ≡ 256 → ⊥) → Shown (t .links .order) n b) → answerAt (t .links .order) (t .links .depth) n b ≡ answered (tree.tapOf t r)
   answer-is b r e sh =
       elim (ℕ-discrete b 256) [
         | yes q ↦ rw (← e, q, best-none t)

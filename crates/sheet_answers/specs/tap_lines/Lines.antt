@@ -7,7 +7,7 @@ use lib.IntN.{ℤ}
 use Rattle.tree_state.specs.declared.Tree.{Tree}
 use Rattle.tree_state.specs.declared.Verdict.the-variants as is
 use Rattle.tree_steps.specs.Requests as request
-use Rattle.tree_run.specs.Run as run
+use Rattle.agreement_calls.proofs.requests.Tap as tree
 use Rattle.plan.specs.Afresh.{Tap}
 use Rattle.sheet_format.specs.declared.TapLine.{TapLine}
 use Rattle.sheet_format.specs.Sheet.{tapWidth, tapOf, tapInRange}
@@ -16,7 +16,7 @@ use Rattle.sheet_calls.specs.Answers.{askedOf, pointOf, placeHit, depthHit, lin
 
 -- what a tap finds on a tree
 abbrev pub found : Tree → TapLine → Tap
-found t p = run.tapOf t (request.hitNode t (askedOf p) (pointOf p))
+found t p = tree.tapOf t (request.hitNode t (askedOf p) (pointOf p))
 
 abbrev pub tapLine : Tree → ℕ → List ℤ → List ℕ
 tapLine t k zs = lineOf (k ∷ placeHit (found t (tapOf zs)) ∷ depthHit (found t (tapOf zs)) ∷ [])

@@ -14,7 +14,7 @@ use Rattle.geometry_clips.specs.declared.clip.Clip.{Clip}
 use Rattle.tree_state.specs.declared.Tree.{Tree}
 use Rattle.tree_state.specs.declared.Verdict.the-variants as is
 use Rattle.tree_steps.specs.Structure.{insertVerdict, insertTree}
-use Rattle.tree_run.specs.Run as tree
+use Rattle.demand3.proofs.Verdicts.{verdict, accepted}
 use Rattle.sheet_format.specs.declared.PlaceLine.{PlaceLine}
 use Rattle.sheet_format.specs.Sheet.{placeWidth, clipWidth, placeOf, clipOf, placeInRange, clipInRange, parentEarlier, placeRule, clipRule}
 use Rattle.sheet_calls.specs.Calls.{parentAt, localOf, clipFor, insertOf}
@@ -65,7 +65,7 @@ module _ (places : List ℤ) (n : ℕ) (clips : List ℤ) (m : ℕ) (g : Good (s
 
     -- its insert is accepted
     pub place-accepted : Accepted (treeUpTo (sheetOf places n clips m) i) (placeOf (rowAt placeWidth i places)) (clipFor (rowsOf clipWidth m clips) (suc i))
-    unfolding tree.verdict insertOf
+    unfolding verdict insertOf
     place-accepted =
         let p = placeOf (rowAt placeWidth i places) in
         let t = parent-told (take i (rowsOf placeWidth n places)) p (row .fitting) in
@@ -74,12 +74,12 @@ module _ (places : List ℤ) (n : ℕ) (clips : List ℤ) (m : ℕ) (g : Good (s
           ranged = row .ranged;
           upward = t .0;
           earlier = omega (arith, t .1, l, few-places);
-          verdict = subst (λ (r : List ℤ). tree.verdict (treeUpTo (sheetOf places n clips m) i) (insertOf (rowsOf clipWidth m clips) (suc i) (placeOf r)) ≡ is.Accepted) (rows-at placeWidth n places i h) (insert-accepted (sheetOf places n clips m) g i low);
+          verdict = subst (λ (r : List ℤ). verdict (treeUpTo (sheetOf places n clips m) i) (insertOf (rowsOf clipWidth m clips) (suc i) (placeOf r)) ≡ is.Accepted) (rows-at placeWidth n places i h) (insert-accepted (sheetOf places n clips m) g i low);
         }
 
     -- and leaves the tree of one place more
     pub place-next : insertTree (treeUpTo (sheetOf places n clips m) i) (parentAt (natAbs (placeOf (rowAt placeWidth i places) .parent))) (localOf (placeOf (rowAt placeWidth i places)) (clipFor (rowsOf clipWidth m clips) (suc i)))
         ≡ treeUpTo (sheetOf places n clips m) (suc i)
-    unfolding tree.accepted insertOf
+    unfolding accepted insertOf
     place-next =
-        sym (subst (λ (r : List ℤ). treeUpTo (sheetOf places n clips m) (suc i) ≡ tree.accepted (treeUpTo (sheetOf places n clips m) i) (insertOf (rowsOf clipWidth m clips) (suc i) (placeOf r))) (rows-at placeWidth n places i h) (insert-next (sheetOf places n clips m) g i low))
+        sym (subst (λ (r : List ℤ). treeUpTo (sheetOf places n clips m) (suc i) ≡ accepted (treeUpTo (sheetOf places n clips m) i) (insertOf (rowsOf clipWidth m clips) (suc i) (placeOf r))) (rows-at placeWidth n places i h) (insert-next (sheetOf places n clips m) g i low))

@@ -1,23 +1,29 @@
--- What a caller is told: an answer, with the room that it was written in, as demand 3 speaks of it.
+-- What a caller is told: an answer, with the room after the call, as the plan speaks of it.
 use Prim.Native.Nat.{ℕ, zero, suc}
 use mathlib.Core.List.{List, [], _∷_}
 use Rattle.index_types.specs.declared.NodeId.{NodeId}
-use Rattle.tree_types.specs.declared.OptionNodeId.the-variants as node
 use Rattle.tree_state.specs.Tree.{numberOf}
+use Rattle.tree_readings.specs.declared.answers.AnswerIds.{AnswerIds}
+use Rattle.tree_readings.specs.declared.answers.AnswerIds.the-variants as ids
 use Rattle.tree_insert.specs.declared.Inserted.{Inserted}
 use Rattle.tree_insert.specs.declared.Inserted.the-variants as inserts
 use Rattle.tree_listings.specs.declared.Listed.{Listed}
 use Rattle.tree_listings.specs.declared.Listed.the-variants as lists
 use Rattle.tree_taps.specs.declared.Tapped.{Tapped}
 use Rattle.tree_taps.specs.declared.Tapped.the-variants as taps
+use Rattle.plan.specs.Calls as call
 use Rattle.plan.specs.Calls.{Outcome}
 use Rattle.plan.specs.Afresh.{nothing, hit}
 use Rattle.plan.specs.Demand.{Answer, refused, listed, tapped}
 
+-- a number, or 0, and nothing besides
+abbrev pub numberTold : ℕ → Outcome
+numberTold n = record { refused = n; told = call.nothing }
+
 -- an insert's refusal, or the id it hands out
 unfoldable pub insertTold : Inserted → Outcome
-insertTold (inserts.Node i) = record { refused = 0; id = node.Some i }
-insertTold (inserts.Refused r) = record { refused = numberOf r; id = node.None }
+insertTold (inserts.Node i) = record { refused = 0; told = call.id i }
+insertTold (inserts.Refused r) = numberTold (numberOf r)
 
 -- the first n ids of a room, two numbers each
 unfoldable pub idsOf : ℕ → List ℕ → List NodeId
@@ -36,3 +42,14 @@ unfoldable pub tapTold : Tapped → List ℕ → Answer
 tapTold taps.Nothing room = tapped nothing
 tapTold (taps.Hit i n) room = tapped (hit i (idsOf n room))
 tapTold (taps.Refused r) room = refused (numberOf r)
+
+-- the children's ids, likewise
+unfoldable pub childrenTold : AnswerIds → List ℕ → Answer
+childrenTold (ids.Ids n) room = listed (idsOf n room)
+childrenTold (ids.Refused r) room = refused (numberOf r)
+
+-- the number of an answer: 0 where it is no refusal
+abbrev pub answerNumber : Answer → ℕ
+answerNumber (refused n) = n
+answerNumber (tapped found) = 0
+answerNumber (listed l) = 0
