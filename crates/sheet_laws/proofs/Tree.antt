@@ -4,7 +4,7 @@ use mathlib.Core.Path.{_≡_, refl, sym, ap, _∙_}
 use mathlib.Core.Bool.{true}
 use mathlib.Core.List.{List, [], _∷_, _++_}
 use lib.Ieee.{nan}
-use lib.ListN.{length, take, getD, replicate, length-replicate}
+use lib.ListN.{length, take, getD, replicate}
 use Rattle.geometry.specs.declared.point.Point.{Point}
 use Rattle.tree_types.specs.declared.NodeFlags.{NodeFlags}
 use Rattle.tree_types.specs.Local.{known}
@@ -99,27 +99,21 @@ module _ (s : Sheet) (asked : NodeFlags) (h : known asked ≡ true) where
   abbrev ids : List ℕ
   ids = replicate 512 0
 
-  request-room : call.lowest (call.conditionsOfRequest (planOf s) asked (length ids)) ≡ 0
-  request-room = rw (length-replicate 512 0) (request-accepted s asked h)
-
-  room-accepted : request.requestVerdict (treeOf s) asked (length ids) ≡ is.Accepted
-  unfolding treeOf verdict call.refusal planOf
-  room-accepted = accepted-too (callsOf s) (call.request (call.hit-test-point (record { x = nan; y = nan })) asked ids) request-room
-
   pub tap-accepted : request.requestVerdict (treeOf s) asked 512 ≡ is.Accepted
-  tap-accepted = ap (request.requestVerdict (treeOf s) asked) (sym (length-replicate 512 0)) ∙ room-accepted
+  unfolding treeOf verdict call.refusal planOf
+  tap-accepted = accepted-too (callsOf s) (call.request (call.hit-test-point (record { x = nan; y = nan })) asked ids) (request-accepted s asked h)
 
   -- the tree's answer is the definition on the redacted plan
   pub tap-answered : (pt : Point) → tree.answer (treeOf s) asked ids (call.hit-test-point pt) ≡ demand.tapped (afresh.tap (afresh.redact asked (planOf s)) asked pt)
   unfolding treeOf demand.answer planOf
   tap-answered pt =
       demand-3 .answered (callsOf s) asked ids (call.hit-test-point pt)
-      ∙ ap (λ (n : ℕ). demand.answerIf n (demand.tapped (afresh.tap (afresh.redact asked (planOf s)) asked pt))) request-room
+      ∙ ap (λ (n : ℕ). demand.answerIf n (demand.tapped (afresh.tap (afresh.redact asked (planOf s)) asked pt))) (request-accepted s asked h)
 
   pub tap-found : (pt : Point) → tapOf (treeOf s) (request.hitNode (treeOf s) asked pt) ≡ afresh.tap (afresh.redact asked (planOf s)) asked pt
   tap-found pt =
       let found = demand.tapped (tapOf (treeOf s) (request.hitNode (treeOf s) asked pt)) in
       tapped-same (
-        sym (answer-is (treeOf s) asked ids (call.hit-test-point pt) ∙ ap (λ (v : Verdict). answerIf v found) room-accepted)
+        sym (answer-is (treeOf s) asked ids (call.hit-test-point pt) ∙ ap (λ (v : Verdict). answerIf v found) tap-accepted)
         ∙ tap-answered pt
       )
