@@ -113,7 +113,5 @@ module _ (s : Sheet) (asked : NodeFlags) (h : known asked ≡ true) where
   pub tap-found : (pt : Point) → tapOf (treeOf s) (request.hitNode (treeOf s) asked pt) ≡ afresh.tap (afresh.redact asked (planOf s)) asked pt
   tap-found pt =
       let found = demand.tapped (tapOf (treeOf s) (request.hitNode (treeOf s) asked pt)) in
-      tapped-same (
-        sym (answer-is (treeOf s) asked ids (call.hit-test-point pt) ∙ ap (λ (v : Verdict). answerIf v found) tap-accepted)
-        ∙ tap-answered pt
-      )
+      let answered = answer-is (treeOf s) asked ids (call.hit-test-point pt) ∙ ap (λ (v : Verdict). answerIf v found) tap-accepted in
+      tapped-same (sym answered ∙ tap-answered pt)
