@@ -23,7 +23,7 @@ use Rattle.plan.specs.Demand.{answerIf, listed}
 use Rattle.tree_readings.specs.answers.Answers as reads
 use Rattle.tree_run.specs.Told.{childrenTold}
 use Rattle.agreement_calls.proofs.Verdicts.{children-reading-refused}
-use Rattle.demand3.proofs.Verdicts.{children-is}
+use Rattle.tree_run.proofs.Verdicts.{children-is}
 use Rattle.demand3.proofs.Theorem.{answer-with}
 use Rattle.demand3.proofs.Soundness.{after, meets-after}
 use Rattle.demand3.proofs.Readings.{node-there, plan-after, Answered, accepted}

@@ -31,7 +31,7 @@ use Rattle.plan.specs.Afresh.{worldPlace, worldBounds, worldHitBounds}
 use Rattle.plan.specs.Calls as call
 use Rattle.plan.specs.Calls.{Call, Reading, Conditions, accept, _else_then_, lowest}
 use Rattle.plan.specs.Demand.{run}
-use Rattle.demand3.proofs.Verdicts.{readingVerdict, verdict}
+use Rattle.tree_run.proofs.Verdicts.{readingVerdict, verdict}
 use Rattle.demand3.proofs.Theorem.{refused-same, zero-accepted}
 use Rattle.demand3.proofs.Soundness.{after, meets-after}
 

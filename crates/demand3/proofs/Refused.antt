@@ -20,7 +20,7 @@ use Rattle.tree_steps.specs.Setters as set
 use Rattle.tree_run.specs.Run as tree
 use Rattle.plan.specs.Calls as call
 use Rattle.plan.specs.Calls.{Call, Reading, Outcome}
-use Rattle.demand3.proofs.Verdicts.{readingVerdict, verdict, outcome-is}
+use Rattle.tree_run.proofs.Verdicts.{readingVerdict, verdict, outcome-is}
 
 -- a number is 1 exactly where a fact fails
 abbrev pub Only : Type 0 → ℕ → Type 0

@@ -33,7 +33,7 @@ use Rattle.plan.specs.Plan.{Plan, empty}
 use Rattle.plan.specs.Calls as call
 use Rattle.plan.specs.Calls.{Call, Reading, Conditions, accept, _else_then_, lowest}
 use Rattle.plan.specs.Demand.{run}
-use Rattle.demand3.proofs.Verdicts.{verdict, accepted, step-is}
+use Rattle.tree_run.proofs.Verdicts.{verdict, accepted, step-is}
 use Rattle.demand3.proofs.Theorem.{Meets, run-meets, meets-fresh, outcome-same}
 
 -- ---- every call keeps soundness, of every sound tree

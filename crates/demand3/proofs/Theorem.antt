@@ -26,8 +26,8 @@ use Rattle.tree_steps.specs.Setters as set
 use Rattle.tree_steps.specs.Structure as structure
 use Rattle.tree_steps.specs.Requests as request
 use Rattle.tree_run.specs.Run as tree
-use Rattle.demand3.proofs.Verdicts as by
-use Rattle.demand3.proofs.Verdicts.{verdict, accepted, told, step-is, outcome-is, answer-is}
+use Rattle.tree_run.proofs.Verdicts as by
+use Rattle.tree_run.proofs.Verdicts.{verdict, accepted, told, step-is, outcome-is, answer-is}
 use Rattle.plan.specs.Plan as plan
 use Rattle.plan.specs.Plan.{Plan, empty}
 use Rattle.plan.specs.Afresh as afresh

@@ -22,7 +22,7 @@ use Rattle.plan.specs.Calls as call
 use Rattle.plan.specs.Calls.{Call}
 use Rattle.plan.specs.Demand as demand
 use Rattle.plan.specs.Demand.{run, outcomes}
-use Rattle.demand3.proofs.Verdicts.{verdict, accepted, answerIf, step-is, answer-is}
+use Rattle.tree_run.proofs.Verdicts.{verdict, accepted, answerIf, step-is, answer-is}
 use Rattle.demand3.proofs.Theorem.{meets-fresh, run-meets, refused-same, zero-accepted, demand-3}
 use Rattle.demand3.proofs.Soundness.{sound-from-fresh}
 use Rattle.sheet_format.specs.Sheet.{Sheet, placeOf}

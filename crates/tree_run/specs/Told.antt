@@ -1,12 +1,17 @@
 -- What a caller is told: an answer, with the room after the call, as the plan speaks of it.
 use Prim.Native.Nat.{ℕ, zero, suc}
 use mathlib.Core.List.{List, [], _∷_}
+use lib.Ieee.{Float}
+use Rattle.geometry.specs.declared.rect.Rect.{Rect}
 use Rattle.index_types.specs.declared.NodeId.{NodeId}
 use Rattle.tree_state.specs.Tree.{numberOf}
+use Rattle.tree_steps.specs.Commit.{rectsOf}
 use Rattle.tree_readings.specs.declared.answers.AnswerIds.{AnswerIds}
 use Rattle.tree_readings.specs.declared.answers.AnswerIds.the-variants as ids
 use Rattle.tree_insert.specs.declared.Inserted.{Inserted}
 use Rattle.tree_insert.specs.declared.Inserted.the-variants as inserts
+use Rattle.tree_commit.specs.declared.Committed.{Committed}
+use Rattle.tree_commit.specs.declared.Committed.the-variants as commits
 use Rattle.tree_listings.specs.declared.Listed.{Listed}
 use Rattle.tree_listings.specs.declared.Listed.the-variants as lists
 use Rattle.tree_taps.specs.declared.Tapped.{Tapped}
@@ -24,6 +29,11 @@ numberTold n = record { refused = n; told = call.nothing }
 unfoldable pub insertTold : Inserted → Outcome
 insertTold (inserts.Node i) = record { refused = 0; told = call.id i }
 insertTold (inserts.Refused r) = numberTold (numberOf r)
+
+-- a commit's rectangles, of the room after it
+unfoldable pub damageTold : Committed → List Float → List Rect
+damageTold (commits.Damage n) room = rectsOf room n
+damageTold (commits.Refused r) room = []
 
 -- the first n ids of a room, two numbers each
 unfoldable pub idsOf : ℕ → List ℕ → List NodeId

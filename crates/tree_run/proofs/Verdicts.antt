@@ -1,9 +1,10 @@
--- Every call of the run (tree_run, specs/Run.antt) in one form: its verdict; what an accepted one leaves and tells; a refused one leaves the tree
--- and gives its number alone.
+-- Every call of the run in one form: its verdict, and what an accepted one leaves and tells; a refused one leaves the tree and the lent room, and
+-- gives its number alone.
 use mathlib.Core.Path.{_≡_, refl, ap, _∙_}
 use mathlib.Core.Bool.{Bool}
 use mathlib.Core.List.{List, [], _∷_, _++_}
 use Prim.Native.Nat.{ℕ}
+use lib.Ieee.{Float}
 use lib.IntN.{ℤ}
 use lib.ListN.{length, drop}
 use Rattle.geometry.specs.declared.rect.Rect.{Rect}
@@ -15,6 +16,7 @@ use Rattle.tree_types.specs.declared.NodeFlags.{NodeFlags}
 use Rattle.tree_types.specs.declared.OptionNodeId.{OptionNodeId}
 use Rattle.tree_types.specs.declared.OptionNodeId.the-variants as node
 use Rattle.tree_state.specs.declared.Tree.{Tree}
+use Rattle.tree_state.specs.declared.Refusal.{Refusal}
 use Rattle.tree_state.specs.declared.Verdict.{Verdict}
 use Rattle.tree_state.specs.declared.Verdict.the-variants as is
 use Rattle.tree_state.specs.Tree.{numberOf, numberIn, positionOf, idAt, live, localAt, needsCommit, storedPlace, storedBounds, storedHitBounds}
@@ -25,11 +27,12 @@ use Rattle.tree_steps.specs.Requests as request
 use Rattle.tree_steps.specs.Readings.{parentOf, childrenOf, nextOf, prevOf, worldVerdict, childrenVerdict}
 use Rattle.tree_insert.specs.Insert as insert
 use Rattle.tree_commit.specs.Commit as commit
+use Rattle.tree_damage.proofs.Front.{rects-front}
 use Rattle.tree_readings.specs.answers.Answers as reads
 use Rattle.tree_listings.specs.Listings as listing
 use Rattle.tree_taps.specs.Taps as tap
-use Rattle.tree_run.specs.Told.{insertTold, idsOf, listingTold, tapTold, childrenTold, answerNumber, numberTold}
+use Rattle.tree_run.specs.Told.{numberTold, insertTold, damageTold, idsOf, listingTold, tapTold, childrenTold, answerNumber}
 use Rattle.tree_run.specs.Run as run
 use Rattle.agreement_calls.proofs.requests.Answers.{answered}
 use Rattle.agreement_calls.proofs.requests.Tap.{tapOf}
 use Rattle.plan.specs.Afresh.{hit}
@@ -230,6 +233,35 @@ pub children-is : (v : Verdict) (l : List NodeId) (room : List ℕ) → children
 unfolding childrenTold reads.idsIf request.roomIf
 children-is is.Accepted l room = ap listed (ids-front l room)
 children-is (is.Refused r) l room = refl
+
+-- ---- and a commit's rectangles
+
+-- of an accepted commit
+abbrev pub damageIf : Verdict → List Rect → List Rect
+damageIf is.Accepted rs = rs
+damageIf (is.Refused r) rs = []
+
+damage-with : (v : Verdict) (t : Tree) (w : steps.Work) (room : List Float) → damageTold (commit.afterWork v t w .answer) (commit.roomAfter v (w .damage) room) ≡ damageIf v (w .damage)
+unfolding damageTold commit.afterWork commit.roomAfter
+damage-with is.Accepted t w room = rects-front (w .damage) room
+damage-with (is.Refused r) t w room = refl
+
+pub damage-is : (t : Tree) (room : List Float)
+    → damageTold (commit.commitCall t (length room) .answer) (commit.commitRoom t room) ≡ damageIf (steps.commitVerdict t (length room)) (steps.commitTree t .damage)
+unfolding commit.commitCall commit.commitRoom
+damage-is t room = damage-with (steps.commitVerdict t (length room)) t (steps.commitTree t) room
+
+-- ---- a refused call leaves its room as it was
+
+pub ids-left : (r : Refusal) (v : Verdict) (l : List NodeId) (room : List ℕ) → v ≡ is.Refused r → request.roomIf v l room ≡ room
+unfolding request.roomIf
+ids-left r v l room e = rw e
+
+pub rects-left : (r : Refusal) (t : Tree) (room : List Float) → steps.commitVerdict t (length room) ≡ is.Refused r → commit.commitRoom t room ≡ room
+unfolding commit.commitRoom commit.roomAfter
+rects-left r t room e = rw e
+
+-- ---- a request
 
 pub answer-is : (t : Tree) (asked : NodeFlags) (room : List ℕ) (q : Request)
     → run.answer t asked room q ≡ answerIf (request.requestVerdict t asked (length room)) (answered t asked q)
