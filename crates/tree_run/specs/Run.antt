@@ -1,5 +1,5 @@
--- Any list of calls on one tree, read off the contracts: each clause names what the `ensures` of that call's function cites, the answer of lent
--- room that of the room after the call too. A function of its own stands behind each, by the call's name (`call.hit-test-point`: `hit_test_point`).
+-- Any list of calls on one tree, read off the contracts: a call has the name of its function (`hit-test-point`: `hit_test_point`), and its clause
+-- names what that function's `ensures` cites, of lent room what it cites of the room after the call. Demand 3 is proved of these (demand3, Theorem).
 use Prim.Native.Nat.{ℕ}
 use mathlib.Core.List.{List}
 use lib.ListN.{length}
