@@ -1,7 +1,7 @@
 -- Demand 3: over every list of calls from fresh, each call is refused exactly where the plan refuses it and tells the same, and every request after
 -- them is refused where the plan refuses it, and else answers what the definition gives on the plan, redacted. The statement is `Demand3` (plan,
 -- specs/Demand.antt); step, outcome and answer are those of tree_run (specs/Run.antt), read off what the contracts of the public functions cite.
-use mathlib.Core.Path.{_≡_, refl, sym, ap, ap₂, _∙_}
+use mathlib.Core.Path.{_≡_, refl, ap, ap₂, _∙_}
 use mathlib.Core.Bool.{Bool, true, false}
 use mathlib.Core.List.{List, [], _∷_}
 use Prim.Native.Nat.{ℕ, zero, suc}
@@ -14,7 +14,6 @@ use Rattle.index_types.specs.declared.NodeId.{NodeId}
 use Rattle.tree_types.specs.declared.NodeFlags.{NodeFlags}
 use Rattle.tree_types.specs.declared.LocalNode.{LocalNode}
 use Rattle.tree_types.specs.declared.OptionNodeId.{OptionNodeId}
-use Rattle.tree_types.specs.declared.OptionNodeId.the-variants as node
 use Rattle.link_forest.specs.Forest.{has}
 use Rattle.link_forest.proofs.Counting.{has-parts}
 use Rattle.tree_state.specs.declared.Tree.{Tree}

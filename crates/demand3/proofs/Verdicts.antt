@@ -6,7 +6,6 @@ use mathlib.Core.List.{List, [], _∷_, _++_}
 use Prim.Native.Nat.{ℕ}
 use lib.IntN.{ℤ}
 use lib.ListN.{length, drop}
-use Rattle.geometry.specs.declared.point.Point.{Point}
 use Rattle.geometry.specs.declared.rect.Rect.{Rect}
 use Rattle.geometry.specs.declared.insets.Insets.{Insets}
 use Rattle.geometry.specs.declared.affine.Affine.{Affine}
