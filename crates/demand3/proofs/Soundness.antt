@@ -70,8 +70,11 @@ run-keeps (c ∷ cs) t w S = let k = step-keeps t c w S in run-keeps cs (tree.st
 abbrev pub after : List Call → Tree
 after calls = run tree.step freshTree calls
 
+pub keeps-after : (calls : List Call) → Keeps (after calls)
+keeps-after calls = run-keeps calls freshTree whole-fresh sound-fresh
+
 pub sound-from-fresh : (calls : List Call) → soundTree (after calls) ≡ true
-sound-from-fresh calls = let k = run-keeps calls freshTree whole-fresh sound-fresh in decides (after calls) (sized (after calls) (k .0)) .1 (k .1)
+sound-from-fresh calls = let k = keeps-after calls in decides (after calls) (sized (after calls) (k .0)) .1 (k .1)
 
 -- the plan has no condition under 1
 Not1 : Conditions → Type 0

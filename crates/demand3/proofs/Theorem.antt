@@ -95,16 +95,16 @@ refused-same t p K (call.request q asked room) = refused.request-refused t p K q
 
 -- what is there after a removal, an insert or a move was there before, but for the new node
 
-removed-was : (p : Plan) (x : ℕ) → has x (p .links) ≡ true → (y : ℕ) → has y (plan.removed p x .links) ≡ true → has y (p .links) ≡ true
+pub removed-was : (p : Plan) (x : ℕ) → has x (p .links) ≡ true → (y : ℕ) → has y (plan.removed p x .links) ≡ true → has y (p .links) ≡ true
 unfolding plan.removed
 removed-was p x h y e = has-parts y x (p .links) h ∙ rw e
 
-moved-was : (t : Tree) (p : Plan) (K : Known t p) (i : NodeId) (o : OptionNodeId) → structure.reparentVerdict t i o ≡ is.Accepted
+pub moved-was : (t : Tree) (p : Plan) (K : Known t p) (i : NodeId) (o : OptionNodeId) → structure.reparentVerdict t i o ≡ is.Accepted
     → (y : ℕ) → has y (plan.moved p (i .0) o .links) ≡ true → has y (p .links) ≡ true
 unfolding plan.moved
 moved-was t p K i o e y h = reparent.was t p K i o e y h
 
-inserted-was : (t : Tree) (p : Plan) (K : Known t p) (o : OptionNodeId) (v : LocalNode) → structure.insertVerdict t o v ≡ is.Accepted
+pub inserted-was : (t : Tree) (p : Plan) (K : Known t p) (o : OptionNodeId) (v : LocalNode) → structure.insertVerdict t o v ≡ is.Accepted
     → (y : ℕ) → has y (call.accepted p (call.insert o v) .links) ≡ true → (y ≡ structure.slotOf (t .slots) → ⊥) → has y (p .links) ≡ true
 unfolding call.accepted plan.inserted
 inserted-was t p K o v e y h n = insert.was t p K o v e y n (rw (refused.slot-same t p K) h)
@@ -175,7 +175,7 @@ accepted-meets t p M (call.request q asked room) e = M
 
 -- ---- a call: its outcome, and what it leaves
 
-some-number : (r : Refusal) → numberOf r ≡ 0 → ⊥
+pub some-number : (r : Refusal) → numberOf r ≡ 0 → ⊥
 unfolding numberOf
 some-number no.Unsound e = omega arith
 some-number no.DeadNode e = omega arith

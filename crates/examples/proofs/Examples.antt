@@ -1,18 +1,19 @@
 -- Document 01's examples P1 to P12, a row each, as one theorem. Rows about taps, ids and refusals speak of the tree's own run from fresh and go by
 -- demand 3, so the plan computes them.
-use mathlib.Core.Path.{_≡_, refl, _∙_}
+use mathlib.Core.Path.{_≡_, refl, sym, ap, _∙_}
 use mathlib.Core.Bool.{true, false}
 use mathlib.Core.List.{List, [], _∷_}
 use Prim.Native.Nat.{ℕ}
-use lib.ListN.{getD}
+use lib.ListN.{length, getD}
 use lib.Ieee.{binary64, round}
 use Rattle.numbers.specs.Rounded.{zero}
 use Rattle.geometry.specs.declared.point.Point.{Point}
 use Rattle.geometry.specs.Rectangle.{rect}
+use Rattle.geometry.specs.declared.affine.Affine.{Affine}
 use Rattle.index_types.specs.declared.NodeId.{NodeId}
 use Rattle.tree_types.specs.declared.NodeFlags.{NodeFlags}
 use Rattle.tree_types.specs.declared.OptionNodeId.the-variants as node
-use Rattle.tree_types.specs.Local.{flags}
+use Rattle.tree_types.specs.Local.{flags, withTransform}
 use Rattle.index_state.specs.Index as index
 use Rattle.index_state.specs.Run as list
 use Rattle.index_rows.proofs.Rows as entries
@@ -23,19 +24,20 @@ use Rattle.tree_run.specs.Run as tree
 use Rattle.tree_rows.proofs.Rows.{after}
 use Rattle.tree_rows.proofs.damage.Damage as rows
 use Rattle.plan.specs.Plan.{Plan, empty}
-use Rattle.plan.specs.Afresh.{worldBounds, candidate, nothing, hit}
+use Rattle.plan.specs.Afresh.{worldBounds, candidate, nothing, hit, tap}
 use Rattle.plan.specs.Calls as call
-use Rattle.plan.specs.Calls.{Call, Outcome, step, outcome}
-use Rattle.plan.specs.Demand.{Answer, tapped, run, outcomes, answer}
+use Rattle.plan.specs.Calls.{Call, Outcome, lowest, conditionsOfRequest, step, outcome}
+use Rattle.plan.specs.Demand.{Answer, tapped, run, outcomes, answerIf, answer}
+use Rattle.plan.proofs.Redaction.{redacted-same}
 use Rattle.plan.proofs.Cases as cases
-use Rattle.plan.proofs.Rows.{num, point, id, root, child, words, settle, a, b, c, halfClip}
+use Rattle.plan.proofs.Rows.{num, point, id, ten, root, child, words, settle, a, b, c, halfClip}
 use Rattle.sheet_format.specs.Sheet as sheet
 use Rattle.sheet_format.specs.Sheet.{readSheet}
 use Rattle.sheet_calls.proofs.Rows as sheets
 use Rattle.sheet_calls.specs.Calls.{callsOf}
 use Rattle.sheet_calls.specs.Answers.{bytes, output}
 use Rattle.demand3.proofs.Theorem.{demand-3}
-use Rattle.examples.proofs.Flat.{Flat, no-candidate}
+use Rattle.examples.proofs.Flat.{Flat, no-candidate, not-answered, nothing-hit}
 
 -- ---- words for the rows: a run of the tree from fresh
 
@@ -56,6 +58,17 @@ given i = record { refused = 0; told = call.id i }
 
 abbrev pub exampleSheet : List ℕ
 exampleSheet = bytes "2\n0 0 0 0 0 0 100 100 0 0 3\n1 1 100 0 0 0 40 20 0 0 3\n0\n4\n90 10 3\n100 10 3\n80 10 3\n200 200 3\n"
+
+-- bounds 0 to 10, all of which go to the point (5, 5)
+abbrev pub flat : Affine
+flat = record { a = zero; b = zero; c = zero; d = zero; e = num 5; f = num 5 }
+
+abbrev pub flatRoot : Call
+flatRoot = call.insert node.None (withTransform flat ten)
+
+-- below the first node, and deeper
+abbrev pub flatChild : Call
+flatChild = call.insert (node.Some a) (withTransform flat ten)
 
 -- the calls of a sheet that is read
 abbrev pub callsIn : sheet.Read → List Call
@@ -86,8 +99,13 @@ pub record Examples : Type 0 where
   -- Bounds 0 to 20, square clip 0 to 10 both ways, identity: (10, 10) hits, (10.5, 10) doesn't.
   pub p7 : (tapAt halfClip (point 10 10) ≡ tapped (hit a (a ∷ [])))
       × (tapAt halfClip (record { x = round binary64 false 21 2; y = num 10 }) ≡ tapped nothing)
-  -- All-zero linear part: no tap hits.
-  pub p8 : (p : Plan) (x : ℕ) → Flat (p .local x .«local_transform») → (asked : NodeFlags) (pt : Point) → candidate p asked pt x ≡ false
+  -- All-zero linear part: no tap hits. Of every plan such a node is no candidate; after every list of calls no tap answers it; a tree of one such node
+  -- answers every tap with nothing, also at the point that is its hit box, and one in front of another node leaves that to be hit.
+  pub p8 : ((p : Plan) (x : ℕ) → Flat (p .local x .«local_transform») → (asked : NodeFlags) (pt : Point) → candidate p asked pt x ≡ false)
+      × ((calls : List Call) (asked : NodeFlags) (room : List ℕ) (pt : Point) (i : NodeId) (path : List NodeId)
+      → tree.answer (after calls) asked room (call.hit-test-point pt) ≡ tapped (hit i path) → Flat (run step empty calls .local (i .0) .«local_transform») → ⊥)
+      × ((pt : Point) → tapAt (flatRoot ∷ settle ∷ []) pt ≡ tapped nothing)
+      × (tapAt (root ∷ flatChild ∷ settle ∷ []) (point 5 5) ≡ tapped (hit a (a ∷ [])))
   -- Equal level and depth: (0, 2) beats (1, 1).
   pub p9 : tapAt (root ∷ root ∷ call.remove a ∷ root ∷ settle ∷ []) (point 5 5) ≡ tapped (hit (id 0 2) (id 0 2 ∷ []))
   -- After the last leaf of a root, `next_depth_first` gives none.
@@ -153,6 +171,32 @@ unfolding cases.computed halfClip
 taps-7 =
     (tap-by-plan halfClip (point 10 10) (tapped (hit a (a ∷ []))) refl, tap-by-plan halfClip (record { x = round binary64 false 21 2; y = num 10 }) (tapped nothing) refl)
 
+-- where no number applies, a request's answer is what is found; redaction changes nothing of it
+tap-accepted : (p : Plan) (asked : NodeFlags) (room : List ℕ) (pt : Point) (n : ℕ) → lowest (conditionsOfRequest p asked (length room)) ≡ n
+    → answer p asked room (call.hit-test-point pt) ≡ answerIf n (tapped (tap p asked pt))
+unfolding answer
+tap-accepted p asked room pt n e = rw (e, redacted-same asked p (call.hit-test-point pt))
+
+never-8 : (calls : List Call) (asked : NodeFlags) (room : List ℕ) (pt : Point) (i : NodeId) (path : List NodeId)
+    → tree.answer (after calls) asked room (call.hit-test-point pt) ≡ tapped (hit i path) → Flat (run step empty calls .local (i .0) .«local_transform») → ⊥
+unfolding after
+never-8 calls asked room pt i path e F =
+    let p = run step empty calls in
+    let n = lowest (conditionsOfRequest p asked (length room)) in
+    let by-plan = demand-3 .answered calls asked room (call.hit-test-point pt) ∙ tap-accepted p asked room pt n refl in
+    not-answered p asked pt i path n (sym by-plan ∙ e) F
+
+alone-8 : (pt : Point) → tapAt (flatRoot ∷ settle ∷ []) pt ≡ tapped nothing
+unfolding cases.computed
+alone-8 pt =
+    let p = run step empty (flatRoot ∷ settle ∷ []) in
+    tap-by-plan (flatRoot ∷ settle ∷ []) pt (tapped nothing)
+    (tap-accepted p (flags 3) (words 512) pt 0 refl ∙ ap tapped (nothing-hit p 0 refl (record { a = refl; b = refl; c = refl; d = refl }) (flags 3) pt))
+
+before-8 : tapAt (root ∷ flatChild ∷ settle ∷ []) (point 5 5) ≡ tapped (hit a (a ∷ []))
+unfolding cases.computed
+before-8 = tap-by-plan (root ∷ flatChild ∷ settle ∷ []) (point 5 5) (tapped (hit a (a ∷ []))) refl
+
 tap-9 : tapAt (root ∷ root ∷ call.remove a ∷ root ∷ settle ∷ []) (point 5 5) ≡ tapped (hit (id 0 2) (id 0 2 ∷ []))
 unfolding cases.computed
 tap-9 = tap-by-plan (root ∷ root ∷ call.remove a ∷ root ∷ settle ∷ []) (point 5 5) (tapped (hit (id 0 2) (id 0 2 ∷ []))) refl
@@ -169,7 +213,7 @@ examples =
       p5 = rows.p5;
       p6 = (sheet-6 .0, sheet-6 .1, sheet-taps .0, sheet-taps .1, sheet-taps .2, sheet-taps .3);
       p7 = taps-7;
-      p8 = no-candidate;
+      p8 = (no-candidate, never-8, alone-8, before-8);
       p9 = tap-9;
       p10 = rows.p10 .0;
       p11 = (entries.p11-p12 .0, entries.p11-p12 .1, entries.p11-p12 .2, entries.p11-p12 .3);

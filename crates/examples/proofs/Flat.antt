@@ -1,7 +1,8 @@
--- P8: a node whose own linear part is all zero, of either sign, is no candidate of any tap: no point is mapped back to a point. Under any parent its
--- world linear part is zero or NaN, the reciprocal of its determinant an infinity or NaN, and each coefficient of the inverse NaN.
+-- P8: a node whose own linear part is all zero, of either sign, is no candidate of any tap, and so no tap hits it: no point is mapped back to a point.
+-- Under any parent its world linear part is zero or NaN, the reciprocal of its determinant an infinity or NaN, and each coefficient of the inverse NaN.
 use mathlib.Core.Path.{_≡_, refl, sym, ap, _∙_}
-use mathlib.Core.Bool.{Bool, true, false, not, _&&_, false≢true}
+use mathlib.Core.Bool.{Bool, true, false, not, _&&_, cond, false≢true}
+use mathlib.Core.List.{List, [], _∷_}
 use Prim.Native.Nat.{ℕ, zero, suc, _+_, _-_, _*_, _<_}
 use native.Mathlib.Omega.{arith}
 use native.Mathlib.Nat.{zero-mul, mul-zero, mul-pos, zero-lt-suc, lt-irrefl}
@@ -20,9 +21,12 @@ use Rattle.geometry.specs.declared.affine.Affine.{Affine}
 use Rattle.geometry.specs.Transform.{mapped, product, inverse}
 use Rattle.geometry_clips.specs.declared.clip.Clip.{Clip}
 use Rattle.tree_worlds.specs.World.{placed, reached}
+use Rattle.index_types.specs.declared.NodeId.{NodeId}
 use Rattle.tree_types.specs.declared.NodeFlags.{NodeFlags}
-use Rattle.plan.specs.Plan.{Plan}
-use Rattle.plan.specs.Afresh.{placedOn, candidate}
+use Rattle.plan.specs.Lists.{keep}
+use Rattle.plan.specs.Plan.{Plan, nodes}
+use Rattle.plan.specs.Afresh.{placedOn, candidate, larger, Hit, nothing, node, better, largest, Tap, hit, tapOf, tap}
+use Rattle.plan.specs.Demand.{Answer, refused, tapped, listed, answerIf}
 
 -- a..d are 0 as numbers
 pub record Flat (t : Affine) : Type 0 where
@@ -168,3 +172,65 @@ not-reached t E r s c pt = rw (mapped-nowhere t E pt, out)
 pub no-candidate : (p : Plan) (x : ℕ) → Flat (p .local x .«local_transform») → (asked : NodeFlags) (pt : Point) → candidate p asked pt x ≡ false
 unfolding candidate placedOn placed
 no-candidate p x F asked pt = rw (not-reached _ (under _ (p .local x .«local_transform») F), and-false)
+
+-- ---- what a tap answers
+
+-- what is found passes the test
+abbrev Passes : (ℕ → Bool) → Hit → Type 0
+Passes q nothing = Unit {0}
+Passes q (node x) = q x ≡ true
+
+better-passes : (p : Plan) (q : ℕ → Bool) (x : ℕ) → q x ≡ true → (h : Hit) → Passes q h → Passes q (better p x h)
+better-passes p q x e nothing u = e
+better-passes p q x e (node y) u = go (larger p x y)
+  where
+    go : (b : Bool) → q (cond b x y) ≡ true
+    go true = e
+    go false = u
+
+largest-passes : (p : Plan) (q : ℕ → Bool) (xs : List ℕ) → Passes q (largest p (keep q xs))
+unfolding largest keep
+largest-passes p q [] = tt
+largest-passes p q (x ∷ xs) = go (q x) refl (largest-passes p q xs)
+  where
+    go : (b : Bool) → q x ≡ b → Passes q (largest p (keep q xs)) → Passes q (largest p (cond b (x ∷ keep q xs) (keep q xs)))
+    go true e u = better-passes p q x e (largest p (keep q xs)) u
+    go false e u = u
+
+-- the slot of a hit, and whether there is one
+slot : Tap → ℕ
+slot nothing = 0
+slot (hit i path) = i .0
+
+found : Tap → Bool
+found nothing = false
+found (hit i path) = true
+
+-- no tap of any plan hits such a node
+not-hit : (p : Plan) (asked : NodeFlags) (pt : Point) (i : NodeId) (path : List NodeId) → tap p asked pt ≡ hit i path → Flat (p .local (i .0) .«local_transform») → ⊥
+unfolding tap slot found
+not-hit p asked pt i path e F =
+    go (largest p (keep (candidate p asked pt) (nodes p))) (largest-passes p (candidate p asked pt) (nodes p)) e
+  where
+    go : (h : Hit) → Passes (candidate p asked pt) h → tapOf p h ≡ hit i path → ⊥
+    go nothing u d = false≢true (ap found d)
+    go (node x) u d =
+        let here : x ≡ i .0 = ap slot d in
+        false≢true (sym (no-candidate p x (rw here F) asked pt) ∙ u)
+
+-- nor is it the answer to one
+tap-of : Answer → Tap
+tap-of (refused n) = nothing
+tap-of (tapped t) = t
+tap-of (listed l) = nothing
+
+pub not-answered : (p : Plan) (asked : NodeFlags) (pt : Point) (i : NodeId) (path : List NodeId) (n : ℕ)
+    → answerIf n (tapped (tap p asked pt)) ≡ tapped (hit i path) → Flat (p .local (i .0) .«local_transform») → ⊥
+unfolding tap-of found
+not-answered p asked pt i path zero e F = not-hit p asked pt i path (ap tap-of e) F
+not-answered p asked pt i path (suc n) e F = false≢true (ap (λ (r : Answer). found (tap-of r)) e)
+
+-- where it is the only one, a tap finds nothing
+pub nothing-hit : (p : Plan) (x : ℕ) → nodes p ≡ x ∷ [] → Flat (p .local x .«local_transform») → (asked : NodeFlags) (pt : Point) → tap p asked pt ≡ nothing
+unfolding tap keep largest
+nothing-hit p x e F asked pt = rw (e, no-candidate p x F asked pt)

@@ -47,7 +47,7 @@ rects-front rs room = rects-there rs (drop (length (numbersOf rs)) room) (rectAt
 
 -- ---- the union
 
-numbers-length : (rs : List Rect) → length (numbersOf rs) ≡ 4 * length rs
+pub numbers-length : (rs : List Rect) → length (numbersOf rs) ≡ 4 * length rs
 numbers-length [] = refl
 numbers-length (r ∷ rs) = rw (length-append (ofRect r) (numbersOf rs), numbers-length rs, mul-suc 4 (length rs)) (omega arith)
 
