@@ -19,7 +19,8 @@ use Rattle.plan.specs.Lists.{put, any}
 use Rattle.plan.specs.Plan.{Plan}
 use Rattle.plan.specs.Visits.{countsAsChanged}
 use Rattle.plan.specs.Afresh.{placedOn, lineage, worldPlace, worldBounds, worldHitBounds}
-use Rattle.agreement.proofs.Same.{Settled, Boxed, Right}
+use Rattle.agreement.proofs.Same.{Settled, Right}
+use Rattle.agreement.specs.Afresh.{Boxed}
 
 -- ---- a table with a new value
 

@@ -8,12 +8,14 @@ use Rattle.index_types.specs.declared.NodeId.{NodeId}
 use Rattle.link_forest.specs.Forest.{has}
 use Rattle.tree_state.specs.Tree as tree
 use Rattle.agreement_calls.proofs.Tests.{live-same, needs-same}
-use Rattle.agreement.proofs.worlds.Committed.{Afresh, calm-right}
+use Rattle.agreement.proofs.worlds.Committed.{calm-right}
+use Rattle.agreement.specs.Afresh.{Afresh}
 use Rattle.plan.specs.Plan as plan
 use Rattle.plan.specs.Calls as call
 use Rattle.plan.specs.Calls.{Call}
 use Rattle.plan.specs.Demand.{run}
-use Rattle.demand3.proofs.Soundness.{after, meets-after}
+use Rattle.demand3.proofs.Soundness.{meets-after}
+use Rattle.demand3.specs.Claims.{after}
 
 module _ (calls : List Call) where
   abbrev pub plan-after : plan.Plan

@@ -23,13 +23,7 @@ use Rattle.tree_worlds.specs.World.{placed, reached}
 use Rattle.tree_types.specs.declared.NodeFlags.{NodeFlags}
 use Rattle.plan.specs.Plan.{Plan}
 use Rattle.plan.specs.Afresh.{placedOn, candidate}
-
--- a..d are 0 as numbers
-pub record Flat (t : Affine) : Type 0 where
-  pub a : eq (t .a) const.zero ≡ true
-  pub b : eq (t .b) const.zero ≡ true
-  pub c : eq (t .c) const.zero ≡ true
-  pub d : eq (t .d) const.zero ≡ true
+use Rattle.examples.specs.Examples.{Flat}
 
 -- ---- zero or NaN
 

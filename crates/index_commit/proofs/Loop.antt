@@ -11,7 +11,7 @@ use lib.Ieee.{Float}
 use Rattle.index_types.specs.declared.Aabb2D.{Aabb2D}
 use Rattle.index_types.specs.flat_tables.Tables.{boxAt}
 use Rattle.counting.proofs.Counting.{times-at}
-use Rattle.index_sound.proofs.Exact.{CountOf}
+use Rattle.index_sound.specs.Sound.{CountOf}
 use Rattle.index_entries.specs.declared.reads.Previous.{Previous}
 use Rattle.index_entries.specs.declared.reads.Previous.the-variants as was
 use Rattle.index_entries.specs.Entries.{previousAt}

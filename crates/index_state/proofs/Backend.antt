@@ -29,15 +29,14 @@ use Rattle.index_entries.proofs.Keep.{entry-used, slot-fits, slot-empty, Kind, 
 use Rattle.index_commit.specs.Commit.{start}
 use Rattle.index_commit.proofs.Loop.{slot-low}
 use Rattle.index_commit.proofs.Keep.{unmarked}
-use Rattle.index_commit.proofs.Agree.{Has, unseen, Agree, own-work}
+use Rattle.index_commit.proofs.Agree.{own-work}
+use Rattle.index_commit.specs.Agree.{Has, unseen, Agree}
 use Rattle.index_query.specs.Query.{slots}
 use Rattle.index_state.specs.declared.Index.{Index}
 use Rattle.index_state.specs.Index.{full, freshIndex, slotOf, insertOf, live, markAt, updateOf, removeOf, short, workOf, commitOf, rectSlots, pointSlots}
 use Rattle.index_state.specs.Run.{Call, insert, update, remove, clear, commit, query-rect, query-point, after, run}
+use Rattle.index_state.specs.Claims.{Own, Visited}
 use Rattle.index_state.proofs.Soundness.{Kept, counts, split, room-left, fresh-kept, after-kept, run-kept, insert-full, insert-room, update-live, update-dead, remove-live, remove-dead, clear-all, commit-short, commit-long}
-
-abbrev pub Own : Index → Type 0
-Own ix = Agree (ix .mark) (ix .backend .present) (ix .backend .boxes) (ix .aabb)
 
 -- a slot that gets a mark, or is emptied, asks that it had a box before if it has to have one now; the others are as they were
 pub away : (mark present : List ℕ) (boxes aabb aabb' : List Float) (x v : ℕ) → x < 512 → (v ≡ 1 → ⊥) → unseen (getD mark x 0) ≡ unseen v → ((y : ℕ) → (y ≡ x → ⊥) → boxAt aabb' y ≡ boxAt aabb y)
@@ -211,14 +210,6 @@ module _ (p : ℕ → Bool) (x : ℕ) where
         | yes e ↦ rw (← e) (omega (arith, slots-past x (omega arith), last-same (p x)))
         | no d ↦ omega (arith, slots-below n (omega arith), last-other (p n) n d)
       ])
-
--- how often a query, whose test of a box is q, visits a slot: an empty slot and an entry that is only added never; an entry without a mark
--- once if its own box passes; one that is updated or removed once if the box passes that the last commit has left
-pub record Visited (ix : Index) (q : Aabb2D → Bool) (x n : ℕ) : Type 0 where
-  pub empty : getD (ix .mark) x 0 ≡ 0 → n ≡ 0
-  pub added : getD (ix .mark) x 0 ≡ 2 → n ≡ 0
-  pub unmarked : getD (ix .mark) x 0 ≡ 1 → n ≡ tally (q (boxAt (ix .aabb) x))
-  pub marked : 3 ≤ getD (ix .mark) x 0 → n ≡ tally (q (boxAt (ix .backend .boxes) x))
 
 module _ (ix : Index) (K : Kept ix) (O : Own ix) (q : Aabb2D → Bool) where
   abbrev test : ℕ → Bool

@@ -16,7 +16,7 @@ use Rattle.tree_types.specs.declared.OptionNodeId.{OptionNodeId}
 use Rattle.tree_types.specs.declared.OptionNodeId.the-variants as node
 use Rattle.tree_types.specs.Local.{flags}
 use Rattle.plan.specs.Calls as call
-use Rattle.plan.specs.Calls.{Call}
+use Rattle.plan.specs.Calls.{Call, Outcome}
 use Rattle.sheet_format.specs.declared.PlaceLine.{PlaceLine}
 use Rattle.sheet_format.specs.declared.ClipLine.{ClipLine}
 use Rattle.sheet_format.specs.Sheet.{Sheet, placeOf, clipOf, equal}
@@ -102,3 +102,8 @@ insertsFrom clips k (zs ∷ places) = insertOf clips k (placeOf zs) ∷ insertsF
 
 unfoldable pub callsOf : Sheet → List Call
 callsOf s = insertsFrom (s .clips) 1 (s .places) ++ call.commit 2048 ∷ []
+
+-- what the inserts of n places answer, from the slot k on
+unfoldable pub handedOut : ℕ → ℕ → List Outcome
+handedOut k zero = []
+handedOut k (suc n) = record { refused = 0; id = node.Some record { 0 = k; 1 = 1 } } ∷ handedOut (suc k) n

@@ -27,10 +27,10 @@ use Rattle.plan.specs.Demand.{run, outcomes}
 use Rattle.demand3.proofs.Theorem.{meets-fresh, run-meets, refused-same, demand-3}
 use Rattle.demand3.proofs.Soundness.{sound-from-fresh}
 use Rattle.sheet_format.specs.Sheet.{Sheet, placeOf}
-use Rattle.sheet_calls.specs.Calls.{insertOf, insertsFrom, callsOf}
+use Rattle.sheet_calls.specs.Calls.{insertOf, insertsFrom, callsOf, handedOut}
 use Rattle.sheet_calls.specs.Answers.{planOf}
 use Rattle.sheet_calls.specs.Good.{Good}
-use Rattle.sheet_calls.proofs.Inserts.{handedOut, next-accepted, next-calls, all-calls, run-append, sheet-outcomes, request-accepted}
+use Rattle.sheet_calls.proofs.Inserts.{next-accepted, next-calls, all-calls, run-append, sheet-outcomes, request-accepted}
 use Rattle.sheet_laws.specs.Built.{treeUpTo, treeOf}
 
 -- ---- accepted on the plan, accepted on the tree

@@ -16,7 +16,8 @@ use Rattle.tree_laws.proofs.Ground.{Linked, live-has}
 use Rattle.tree_links.proofs.Walk.{next-is, prev-is, parent-is, children-are}
 use Rattle.plan.specs.Plan.{Plan, idOf}
 use Rattle.plan.specs.Calls.{Call}
-use Rattle.demand3.proofs.Soundness.{after, meets-after}
+use Rattle.demand3.proofs.Soundness.{meets-after}
+use Rattle.demand3.specs.Claims.{after}
 use Rattle.demand3.proofs.Readings.{plan-after}
 
 -- the first of a list, or none

@@ -11,7 +11,7 @@ use Rattle.link_forest.specs.Forest.{Forest, has, above}
 use Rattle.link_forest.proofs.Bools.{never}
 use Rattle.link_forest.proofs.Laws.{below-within}
 use Rattle.link_forest.proofs.Rep.{rep-place, rep-end}
-use Rattle.link_forest.proofs.Sound.{Sound}
+use Rattle.link_forest.specs.Sound.{Sound}
 use Rattle.link_table.specs.Links.{endOf}
 use Rattle.tree_state.specs.declared.Tree.{Tree}
 use Rattle.tree_state.specs.Tree.{positionOf, isLive, markedAt, transformChangedAt, clipChangedAt, anyOf}

@@ -34,9 +34,9 @@ use Rattle.index_state.proofs.Soundness.{Counts}
 use Rattle.tree_state.specs.declared.Keys.{Keys}
 use Rattle.tree_state.specs.declared.Tree.{Tree}
 use Rattle.tree_state.specs.Tree.{committedAt, idAt, keyAt}
-use Rattle.tree_laws.proofs.Whole.{WholeKeys, WholeIndex}
+use Rattle.tree_laws.specs.Whole.{WholeKeys, WholeIndex}
 use Rattle.tree_steps.specs.Commit.{enterKeys, enterIndex}
-use Rattle.agreement.proofs.Same.{Alike, itself, as-numbers}
+use Rattle.agreement.specs.Afresh.{Alike, itself, as-numbers}
 
 -- ---- boxes alike
 

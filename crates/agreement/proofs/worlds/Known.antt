@@ -11,7 +11,8 @@ use Rattle.counting.specs.Times.{times}
 use Rattle.counting.proofs.Counting.{hit}
 use Rattle.link_forest.specs.Forest.{Forest, has}
 use Rattle.link_forest.proofs.Bools.{never}
-use Rattle.index_sound.proofs.Exact.{CountOf, counted}
+use Rattle.index_sound.proofs.Exact.{counted}
+use Rattle.index_sound.specs.Sound.{CountOf}
 use Rattle.index_commit.specs.Commit.{start, work}
 use Rattle.index_commit.proofs.Keep.{keep-commit}
 use Rattle.index_state.specs.declared.Index.{Index}
@@ -23,7 +24,8 @@ use Rattle.tree_steps.specs.SlotOrder.{putIn, slotsBelow}
 use Rattle.tree_steps.specs.Commit.{begun, startsBelow, walkAll, visitsOf, finished, workFor, commitTree}
 use Rattle.plan.specs.Plan.{Plan, noMark, Entries}
 use Rattle.plan.specs.Visits.{visits, enter, freeRemoved, committed}
-use Rattle.agreement.proofs.Same.{Same, Known, markOf, entryOf}
+use Rattle.agreement.proofs.Same.{Same, Known}
+use Rattle.agreement.specs.Read.{markOf, entryOf}
 use Rattle.agreement.proofs.worlds.Visits.{slotAt, Visited, visited}
 use Rattle.agreement.proofs.worlds.Keyed.{KeyedTree}
 use Rattle.agreement.proofs.worlds.Entries.{Entered}

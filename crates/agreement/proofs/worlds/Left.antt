@@ -20,14 +20,15 @@ use Rattle.index_commit.specs.Commit as commit
 use Rattle.index_commit.specs.Commit.{Act, rests, adds, moves, drops, actOf, keptStep, start, work, workStep}
 use Rattle.index_commit.proofs.Loop.{slot-low}
 use Rattle.index_commit.proofs.Keep.{commit-whole}
-use Rattle.index_commit.proofs.Agree.{Agree, own-work}
+use Rattle.index_commit.proofs.Agree.{own-work}
+use Rattle.index_commit.specs.Agree.{Agree}
 use Rattle.index_state.specs.declared.Index.{Index}
 use Rattle.index_state.specs.Index.{slotOf, markAt, workOf, commitOf}
 use Rattle.index_state.proofs.Backend.{away, updated-mark, updated-unseen}
 use Rattle.tree_state.specs.declared.Pending.{Pending}
 use Rattle.tree_state.specs.declared.Tree.{Tree}
 use Rattle.tree_state.specs.Tree.{committedAt, keyAt, storedHitBounds, needsCommit}
-use Rattle.tree_laws.proofs.Whole.{Whole, WholeSlots, WholeLinks, WholeLocals, WholeIndex}
+use Rattle.tree_laws.specs.Whole.{Whole, WholeSlots, WholeLinks, WholeLocals, WholeIndex}
 use Rattle.tree_laws.proofs.Ground.{Linked, slot-live}
 use Rattle.tree_steps.specs.Commit.{Work, enterIndex, newPlace, newHitBounds, rework, reworkAll, begun, visitsOf, workFor, commitTree}
 use Rattle.plan.specs.Plan.{Plan}

@@ -22,7 +22,7 @@ use Rattle.index_state.proofs.Soundness.{Counts}
 use Rattle.tree_state.specs.declared.Tree.{Tree}
 use Rattle.tree_state.specs.Tree.{liveSlots, localAt, markedAt, transformChangedAt, clipChangedAt, committedAt, keyAt, entryMark, isRemoved, needsCommit}
 use Rattle.tree_state.specs.Sound.{SoundTree, Owns, Live, countOf, countBelow, removedEntries}
-use Rattle.tree_laws.proofs.Whole.{WholeIndex}
+use Rattle.tree_laws.specs.Whole.{WholeIndex}
 use Rattle.tree_laws.proofs.Ground.{live-has}
 use Rattle.tree_steps.specs.Commit.{begun, visitsOf, finished, workFor, commitTree}
 use Rattle.plan.specs.Plan.{Plan}

@@ -22,7 +22,7 @@ use Rattle.tree_state.specs.Locals.{localIn}
 use Rattle.tree_state.specs.Tree.{localAt}
 use Rattle.tree_steps.specs.Setters.{storeTransform, storeClip, storeBounds, storeSlop, storeLevel, storeFlags}
 use Rattle.tree_steps.specs.Structure.{storeLocal}
-use Rattle.tree_laws.proofs.Whole.{WholeLocals}
+use Rattle.tree_laws.specs.Whole.{WholeLocals}
 
 pub local-is : (t : Tree) (x : ℕ) → localAt t x ≡ localIn (t .locals) x
 unfolding localAt

@@ -14,7 +14,7 @@ use Rattle.tree_state.specs.declared.Pending.{Pending}
 use Rattle.tree_state.specs.declared.Tree.{Tree}
 use Rattle.tree_state.specs.Tree.{liveSlots, committedAt, keyAt, storedBounds, entryMark, needsCommit}
 use Rattle.tree_state.specs.Sound.{SoundTree, Owns, Live, countOf, committedNodes}
-use Rattle.tree_laws.proofs.Whole.{Whole, WholeSlots, WholeLinks, WholeLocals, WholeIndex}
+use Rattle.tree_laws.specs.Whole.{Whole, WholeSlots, WholeLinks, WholeLocals, WholeIndex}
 use Rattle.tree_laws.proofs.Ground.{Linked, linked, live-has}
 use Rattle.tree_steps.specs.Commit.{visitsOf, reworkAll, begun, finished, workFor, commitTree}
 use Rattle.tree_rework.specs.preconditions.Fits.{Ready}

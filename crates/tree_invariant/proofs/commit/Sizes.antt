@@ -20,7 +20,7 @@ use Rattle.index_state.specs.Index.{workOf, commitOf}
 use Rattle.index_state.proofs.Soundness.{Counts}
 use Rattle.tree_state.specs.Sound.{countOf}
 use Rattle.tree_steps.specs.Commit.{rectsOf}
-use Rattle.tree_laws.proofs.Whole.{WholeIndex}
+use Rattle.tree_laws.specs.Whole.{WholeIndex}
 
 -- ---- the index's commit
 
