@@ -45,7 +45,7 @@ unfolding countOf
 count-few p [] = omega arith
 count-few p (x ∷ l) = omega (arith, count-few p l, tally-small (p x))
 
-no-mark : (n x : ℕ) → getD (replicate n false) x false ≡ false
+pub no-mark : (n x : ℕ) → getD (replicate n false) x false ≡ false
 no-mark zero x = refl
 no-mark (suc n) zero = refl
 no-mark (suc n) (suc x) = no-mark n x
@@ -72,13 +72,13 @@ module _ (t r : Tree) (w : length (t .links .order) ≡ 256) (S : SoundTree t) (
   same-live : (x : ℕ) → Live t x → Live r x
   same-live x h = rw (F .links) h
 
-  none-removed : removedEntries r ≡ 0
+  pub none-removed : removedEntries r ≡ 0
   none-removed = count-none 512 (λ k. isRemoved (entryMark r k)) (λ k. lt-leb 4 (entryMark r k) (omega (arith, F .marks k)))
 
   live-few : length (liveSlots r) ≤ 256
   live-few = rw (F .links) (omega (arith, S .count-fits, length-take-le (t .links .count) (t .links .order) (omega (arith, S .count-fits))))
 
-  finished-sound : SoundTree r
+  pub finished-sound : SoundTree r
   unfolding localAt
   finished-sound =
       record {

@@ -19,9 +19,8 @@ use Rattle.tree_state.specs.Sound.{SoundTree, Live, countBelow}
 use Rattle.tree_laws.specs.Whole.{Whole}
 use Rattle.tree_laws.proofs.Ground.{Linked, linked, live-has}
 use Rattle.tree_steps.specs.Commit.{visitsOf, reworkAll, begun, noMarks, finished, workFor, commitTree}
-use Rattle.agreement.proofs.worlds.Sound.{Finished}
+use Rattle.agreement.proofs.worlds.Sound.{Finished, no-mark, none-removed}
 use Rattle.tree_invariant.specs.commit.Calm.{Calm}
-use Rattle.tree_invariant.proofs.commit.Finish.{no-mark, none-removed}
 use Rattle.tree_invariant.proofs.commit.Keep.{finished-in, keep-commit}
 
 -- ---- tests over a list and over the numbers below a bound

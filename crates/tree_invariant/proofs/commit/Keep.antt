@@ -24,11 +24,10 @@ use Rattle.tree_visits.proofs.Slots.{slots-once, slots-cover}
 use Rattle.tree_invariant.proofs.remove.Fold.{no-area}
 use Rattle.agreement.proofs.worlds.Room.{few-entries}
 use Rattle.agreement.proofs.worlds.Fold.{Frame}
-use Rattle.agreement.proofs.worlds.Sound.{Finished, after-low, after-stays, after-from, after-sound}
+use Rattle.agreement.proofs.worlds.Sound.{Finished, after-low, after-stays, after-from, after-sound, no-mark, finished-sound}
 use Rattle.tree_invariant.proofs.commit.Filed.{FiledTree, filed-sound}
 use Rattle.tree_invariant.proofs.commit.Turn.{Before}
 use Rattle.tree_invariant.proofs.commit.Fold.{all-fit, all-done, all-stay, all-committed, all-frame}
-use Rattle.tree_invariant.proofs.commit.Finish.{no-mark, finished-sound}
 use Rattle.tree_invariant.proofs.commit.Sizes.{whole-commit, count-more, length-rects}
 
 none-of : (b : Bool) → (b ≡ true → ⊥) → b ≡ false
