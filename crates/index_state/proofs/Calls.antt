@@ -112,7 +112,7 @@ module _ (ix : Index) (k : Key) where
 
 -- ---- commit
 
-or-none : (a b : Bool) → a || b ≡ false → (a ≡ false) × (b ≡ false)
+pub or-none : (a b : Bool) → a || b ≡ false → (a ≡ false) × (b ≡ false)
 or-none false false h = (refl, refl)
 or-none false true h = (refl, h)
 or-none true b h = (h, sym (cc))

@@ -25,6 +25,7 @@ use Rattle.index_state.specs.declared.Index.{Index}
 use Rattle.index_state.specs.Index.{soundIndex, full, freshIndex, slotOf, insertOf, insertCall, live, markAt, updateOf, updateCall, removeOf, removeCall, clearCall, short, workOf, commitOf, commitCall}
 use Rattle.index_state.specs.Run.{Call, insert, update, remove, clear, commit, query-rect, query-point, after, run}
 use Rattle.index_state.specs.Claims.{Shaped}
+use Rattle.numbers.proofs.Bools.{split}
 
 -- the shape of the tables, and the test of soundness passed
 pub record Kept (ix : Index) : Type 0 where
@@ -40,13 +41,9 @@ counts ix K = let S = K .shaped in count-tells (ix .mark) (ix .free) (ix .frees)
 keeps : (ix : Index) → Shaped ix → Counts ix → Kept ix
 keeps ix S C = record { shaped = S; sound = count-tells (ix .mark) (ix .free) (ix .frees) (ix .dirty) (ix .queued) (ix .used) (S .mark-whole) (S .free-whole) (S .dirty-whole) .1 C }
 
-pub split : {A : Type 0} (b : Bool) → (b ≡ true → A) → (b ≡ false → A) → A
-split true f g = f refl
-split false f g = g refl
-
 -- ---- lengths
 
-queue-length : (dirty : List ℕ) (n x : ℕ) → length (queueWith dirty n x) ≡ length dirty
+pub queue-length : (dirty : List ℕ) (n x : ℕ) → length (queueWith dirty n x) ≡ length dirty
 unfolding queueWith
 queue-length dirty n x = go (ltb 0 (times x (take n dirty)))
   where

@@ -116,7 +116,7 @@ module _ (P : ℕ → List ℕ → Type 0) where
       go false n = rw (remove-absent p f n) H
 
 -- ---- what is above a node stays where it is not moved
-each-in : (P : ℕ → List ℕ → Type 0) (l : List ℕ) (f : Forest) → ((y : ℕ) (k : List ℕ) → has y f ≡ true → P y k) → Each P l f
+pub each-in : (P : ℕ → List ℕ → Type 0) (l : List ℕ) (f : Forest) → ((y : ℕ) (k : List ℕ) → has y f ≡ true → P y k) → Each P l f
 each-in P l none g = tt
 each-in P l (tree y c s) g = (
   g y l (has-top y c s),

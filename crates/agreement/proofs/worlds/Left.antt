@@ -70,7 +70,7 @@ backed-ran f (i ∷ is) k L K I F B =
     (backed-turn t f K x h (rectToAabb b) B (committedAt t x) (rectEq (storedHitBounds t x) b) refl (F .0))
 
 -- ---- the index's own commit
-kept-step : (a : Act) (kept : List ℕ) (x : ℕ) → length (keptStep a kept x) ≡ length kept
+pub kept-step : (a : Act) (kept : List ℕ) (x : ℕ) → length (keptStep a kept x) ≡ length kept
 kept-step rests kept x = refl
 kept-step adds kept x = refl
 kept-step moves kept x = length-set kept x 0

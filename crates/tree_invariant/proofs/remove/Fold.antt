@@ -54,7 +54,7 @@ push-length : (b : Bool) (p : Pending) (r : Rect) → length (pushRect b p r .re
 push-length true p r = rect-length (p .rects) (p .count) r
 push-length false p r = refl
 
-push-count : (b : Bool) (p : Pending) (r : Rect) → pushRect b p r .count ≡ p .count + tally b
+pub push-count : (b : Bool) (p : Pending) (r : Rect) → pushRect b p r .count ≡ p .count + tally b
 push-count true p r = refl
 push-count false p r = omega arith
 

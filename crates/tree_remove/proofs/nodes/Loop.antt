@@ -8,6 +8,7 @@ use native.Mathlib.Omega.{arith}
 use lib.ListN.{length, take, drop, getD, set, length-set}
 use lib.Seq.{sets, drop-cons, drop-length, getD-take, length-take-le}
 use lib.Ieee.{Float}
+use Rattle.tree_invariant.proofs.remove.Fold.{push-count}
 use Rattle.counting.specs.Times.{tally, times}
 use Rattle.counting.proofs.Counting.{hit}
 use Rattle.geometry.specs.declared.rect.Rect.{Rect}
@@ -28,7 +29,6 @@ use Rattle.tree_invariant.proofs.remove.Entries.{first-low, first-unmarked, pla
 use Rattle.tree_invariant.specs.remove.Removals.{Plain, marksAll, queueAll, lengthAll}
 use Rattle.tree_remove.specs.steps.Node.{Owned}
 use Rattle.tree_remove.specs.nodes.Remove.{pendingAll, keysIn, Marked, Ready}
-use Rattle.tree_remove.proofs.steps.Steps.{push-count}
 
 -- ---- entries: one more node, which has one if b says so
 
