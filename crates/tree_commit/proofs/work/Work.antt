@@ -18,7 +18,7 @@ use Rattle.tree_state.specs.Lent.{marks, pending, backend, index, tree}
 use Rattle.tree_state.specs.Tree.{needsCommit}
 use Rattle.tree_state.specs.Sound.{SoundTree, soundTree}
 use Rattle.tree_sound.proofs.Exact.{decides}
-use Rattle.tree_steps.specs.Commit.{visitsOf, begun, noMarks, finished, commitTree, rectsInFront}
+use Rattle.tree_steps.specs.Commit.{Work, visitsOf, reworkAll, begun, noMarks, finished, commitTree, rectsInFront}
 use Rattle.tree_laws.proofs.Whole.{sized}
 use Rattle.tree_laws.specs.Whole.{Whole, WholeIndex}
 use Rattle.tree_visits.proofs.Whole.{front-take, seven, visits-lent}
