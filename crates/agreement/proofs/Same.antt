@@ -1,38 +1,24 @@
 -- The relation of a tree and a plan that every call keeps: the tree is sound, its records are the plan's, and its stored world records are
 -- right wherever nothing at or above a node counts as changed.
 use mathlib.Core.Path.{_≡_}
-use mathlib.Core.Bool.{Bool, true, false}
+use mathlib.Core.Bool.{true, false}
 use mathlib.Core.List.{reverse}
 use Prim.Native.Nat.{ℕ, _≤_}
 use lib.ListN.{take}
-use Rattle.index_types.specs.declared.Aabb2D.{Aabb2D}
-use Rattle.index_types.specs.Boxes.{aabbEq}
-use Rattle.index_types.specs.flat_tables.Tables.{boxAt}
 use Rattle.counting.specs.Times.{times}
 use Rattle.link_forest.specs.Forest.{has}
-use Rattle.index_commit.proofs.Agree.{Agree}
-use Rattle.tree_types.specs.Local.{rectToAabb}
+use Rattle.index_commit.specs.Agree.{Agree}
 use Rattle.tree_state.specs.declared.Tree.{Tree}
-use Rattle.tree_state.specs.Tree.{generationAt, localAt, markedAt, transformChangedAt, clipChangedAt, committedAt, keyAt, storedPlace, storedBounds, storedHitBounds, entryMark, isRemoved}
+use Rattle.tree_state.specs.Tree.{generationAt, localAt, storedPlace, entryMark, isRemoved}
 use Rattle.tree_state.specs.Sound.{SoundTree}
-use Rattle.tree_laws.proofs.Whole.{Whole}
+use Rattle.tree_laws.specs.Whole.{Whole}
 use Rattle.tree_laws.proofs.Ground.{Linked}
 use Rattle.plan.specs.Lists.{any}
-use Rattle.plan.specs.Plan.{Plan, Mark, Entry, without, number}
+use Rattle.plan.specs.Plan.{Plan}
 use Rattle.plan.specs.Visits.{countsAsChanged}
-use Rattle.plan.specs.Afresh.{lineage, worldPlace, worldBounds, worldHitBounds}
-
--- ---- the plan's records, read off the tree
-
-abbrev pub markOf : Tree → ℕ → Mark
-markOf t x = record { marked = markedAt t x; transform = transformChangedAt t x; clip = clipChangedAt t x }
-
-abbrev pub entryIf : Bool → ℕ → Entry
-entryIf true k = number k
-entryIf false k = without
-
-abbrev pub entryOf : Tree → ℕ → Entry
-entryOf t x = entryIf (committedAt t x) (keyAt t x .0)
+use Rattle.plan.specs.Afresh.{lineage, worldPlace}
+use Rattle.agreement.specs.Read.{markOf, entryOf}
+use Rattle.agreement.specs.Afresh.{Boxed}
 
 pub record Same (t : Tree) (p : Plan) : Type 0 where
   pub links : Linked t (p .links)
@@ -50,19 +36,9 @@ pub record Same (t : Tree) (p : Plan) : Type 0 where
 
 -- ---- world records
 
--- the same box, or the same as numbers: an entry whose hit box is equal as numbers keeps its old zero signs
-pub data Alike (a b : Aabb2D) : Type 0 where
-  itself : a ≡ b → Alike a b
-  as-numbers : aabbEq a b ≡ true → Alike a b
-
 -- nothing at x or above it counts as changed
 abbrev pub Settled : Plan → ℕ → Type 0
 Settled p x = any (countsAsChanged p) (lineage p x) ≡ false
-
-pub record Boxed (t : Tree) (p : Plan) (x : ℕ) : Type 0 where
-  pub bounds : storedBounds t x ≡ worldBounds p x
-  pub hit-bounds : storedHitBounds t x ≡ worldHitBounds p x
-  pub entry : Alike (boxAt (t .index .aabb) (keyAt t x .0)) (rectToAabb (worldHitBounds p x))
 
 -- of every live node: its place is right if it is settled, and its boxes too if it has no mark either
 pub record Right (t : Tree) (p : Plan) : Type 0 where

@@ -1,7 +1,7 @@
 -- What a call leaves of the world records: if of every node that is settled now what is above it, what is handed down to it and what is
 -- stored of it is as it was, the stored records are as right as they were.
 use mathlib.Core.Path.{_≡_, refl, sym, ap, _∙_}
-use mathlib.Core.Bool.{Bool, true, false, _||_}
+use mathlib.Core.Bool.{Bool, true, false}
 use mathlib.Core.List.{List, [], _∷_}
 use Prim.Native.Nat.{ℕ, _≤_}
 use native.Mathlib.Omega.{arith}
@@ -9,7 +9,6 @@ use native.Mathlib.Decide.{ℕ-discrete}
 use borrow.Author.Tests.{eq-eqb, ne-eqb}
 use Rattle.counting.specs.Times.{times}
 use Rattle.counting.proofs.Counting.{hit, miss}
-use Rattle.counting.proofs.Kit.{contra}
 use Rattle.index_types.specs.flat_tables.Tables.{boxAt}
 use Rattle.tree_types.specs.declared.LocalNode.{LocalNode}
 use Rattle.link_forest.specs.Forest.{has, above}
@@ -19,7 +18,9 @@ use Rattle.plan.specs.Lists.{put, any}
 use Rattle.plan.specs.Plan.{Plan}
 use Rattle.plan.specs.Visits.{countsAsChanged}
 use Rattle.plan.specs.Afresh.{placedOn, lineage, worldPlace, worldBounds, worldHitBounds}
-use Rattle.agreement.proofs.Same.{Settled, Boxed, Right}
+use Rattle.agreement.proofs.Same.{Settled, Right}
+use Rattle.agreement.specs.Afresh.{Boxed}
+use Rattle.index_state.proofs.Calls.{or-none}
 
 -- ---- a table with a new value
 
@@ -31,15 +32,11 @@ put-other f x v y n = rw (ne-eqb y x n)
 
 -- ---- tests over a list
 
-or-neither : (a b : Bool) → a || b ≡ false → (a ≡ false) × (b ≡ false)
-or-neither true b e = absurd (contra refl e)
-or-neither false b e = (refl, e)
-
 pub any-at : (f : ℕ → Bool) (l : List ℕ) → any f l ≡ false → (q : ℕ) → 1 ≤ times q l → f q ≡ false
 unfolding any times
 any-at f [] e q h = absurd (omega arith)
 any-at f (x ∷ l) e q h =
-    let n = or-neither (f x) (any f l) e in
+    let n = or-none (f x) (any f l) e in
     elim (ℕ-discrete q x) [ yes w ↦ rw w (n .0) | no m ↦ any-at f l (n .1) q (omega (arith, miss q x m)) ]
 
 pub any-none : (f : ℕ → Bool) (l : List ℕ) → ((q : ℕ) → 1 ≤ times q l → f q ≡ false) → any f l ≡ false

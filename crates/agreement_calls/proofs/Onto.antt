@@ -12,9 +12,9 @@ use Rattle.tree_types.specs.declared.OptionNodeId.{OptionNodeId}
 use Rattle.tree_types.specs.declared.OptionNodeId.the-variants as node
 use Rattle.link_forest.specs.Forest.{Forest, none, tree, leaf, either, has, Distinct, cat, under, remove, kids, above, part}
 use Rattle.link_forest.proofs.Bools.{never, same-slot}
-use Rattle.link_forest.proofs.Clauses.{has-top, has-low, has-late}
+use Rattle.link_forest.proofs.Clauses.{has-low}
 use Rattle.link_forest.proofs.Counting.{has-cat, has-under, has-parts, once-part, once-remove, not-below, remove-has, remove-lacks}
-use Rattle.link_forest.proofs.Holds.{Each, holds-at, each-cat, each-under, above-cat, above-under, above-remove}
+use Rattle.link_forest.proofs.Holds.{Each, holds-at, each-cat, each-under, above-cat, above-under, above-remove, each-in}
 use Rattle.plan.specs.Plan.{onto}
 
 -- the parent, if one is named, is in the forest
@@ -54,14 +54,6 @@ module _ (o : OptionNodeId) (x : ℕ) (f : Forest) (q : Parent o f) (new : has x
   leaf-above once y h = above-onto o (leaf x) f q once (λ z g. rw (leaf-has x z g) new) y h
 
 -- ---- a node with what is below it
-each-in : (P : ℕ → List ℕ → Type 0) (l : List ℕ) (f : Forest) → ((y : ℕ) (k : List ℕ) → has y f ≡ true → P y k) → Each P l f
-each-in P l none g = tt
-each-in P l (tree y c s) g = (
-  g y l (has-top y c s),
-  each-in P (y ∷ l) c (λ z k h. g z k (has-low z y c s h)),
-  each-in P l s (λ z k h. g z k (has-late z y c s h)),
-)
-
 module _ (x : ℕ) (c : Forest) where
   -- of what is below x: x is above it
   abbrev Under : ℕ → List ℕ → Type 0

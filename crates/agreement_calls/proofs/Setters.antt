@@ -37,14 +37,15 @@ use Rattle.tree_steps.specs.Setters as set
 use Rattle.tree_steps.specs.Setters.{held, ofNode, withLocals, storeTransform, storeClip, storeBounds, storeSlop, storeLevel, storeFlags, unless, setTransform, setClip, setBounds, setSlop, setLevel, setFlags, transformVerdict, clipVerdict, boundsVerdict, slopVerdict, flagsVerdict}
 use Rattle.tree_invariant.proofs.calls.Accepted.{checked-both}
 use Rattle.tree_invariant.proofs.calls.Setters.{keep-set-transform, keep-set-clip, keep-set-bounds, keep-set-slop, keep-set-level, keep-set-flags}
-use Rattle.tree_laws.proofs.Whole.{Whole}
+use Rattle.tree_laws.specs.Whole.{Whole}
 use Rattle.tree_laws.proofs.Ground.{low}
 use Rattle.plan.specs.Plan as plan
 use Rattle.plan.specs.Plan.{Plan, Mark, withLocal, setUnless}
 use Rattle.plan.specs.Visits.{countsAsChanged}
 use Rattle.plan.specs.Calls as call
 use Rattle.plan.specs.Calls.{accepted}
-use Rattle.agreement.proofs.Same.{Same, Known, markOf}
+use Rattle.agreement.proofs.Same.{Same, Known}
+use Rattle.agreement.specs.Read.{markOf}
 use Rattle.agreement_calls.proofs.Tests.{live-same}
 use Rattle.agreement_calls.proofs.Frame.{put-same, put-other, Kept, Unmoved, Still, still-right}
 

@@ -32,6 +32,7 @@ use Rattle.plan.specs.Lists.{any}
 use Rattle.plan.specs.Plan as plan
 use Rattle.plan.specs.Plan.{Plan, Mark, nodes, full}
 use Rattle.agreement.proofs.Same.{Known}
+use Rattle.tree_visits.proofs.Owner.{or-right}
 
 -- ---- over numbers and lists
 
@@ -43,10 +44,6 @@ unfolding anyOf any times
 any-alike p q [] h = refl
 any-alike p q (x ∷ l) h = rw (h x (omega (arith, hit x)), any-alike p q l (λ y n. h y (omega arith)))
 
-or-true : (a b : Bool) → b ≡ true → a || b ≡ true
-or-true true b e = refl
-or-true false b e = e
-
 or-cases : (a b : Bool) → a || b ≡ true → a ≡ false → b ≡ true
 or-cases true b e n = absurd (contra refl n)
 or-cases false b e n = e
@@ -54,7 +51,7 @@ or-cases false b e n = e
 pub some-at : (n : ℕ) (q : ℕ → Bool) (k : ℕ) → k < n → q k ≡ true → some n q ≡ true
 unfolding some
 some-at zero q k l e = absurd (omega arith)
-some-at (suc n) q k l e = elim (ℕ-discrete k n) [ yes w ↦ or-true (some n q) (q n) (rw w at e) | no m ↦ rw (some-at n q k (omega arith) e) ]
+some-at (suc n) q k l e = elim (ℕ-discrete k n) [ yes w ↦ or-right (some n q) (q n) (rw w at e) | no m ↦ rw (some-at n q k (omega arith) e) ]
 
 pub some-find : (n : ℕ) (q : ℕ → Bool) → some n q ≡ true → (k : ℕ) × (k < n) × (q k ≡ true)
 unfolding some
@@ -72,7 +69,7 @@ some-counted zero q h = absurd (omega arith)
 some-counted (suc n) q h = go (q n) refl (some-counted n q)
   where
     go : (b : Bool) → q n ≡ b → (1 ≤ countBelow n q → some n q ≡ true) → some n q || q n ≡ true
-    go true e r = or-true (some n q) (q n) e
+    go true e r = or-right (some n q) (q n) e
     go false e r = let z : tally (q n) ≡ 0 = rw e in rw (r (omega arith))
 
 -- one of three that comes only with the second

@@ -17,7 +17,7 @@ use Rattle.counting.proofs.Words.{OnceBelow, once-below-tells}
 abbrev pub zeros : ℕ → List ℕ
 zeros n = replicate n 0
 
-zero-at : (n x : ℕ) → getD (zeros n) x 0 ≡ 0
+pub zero-at : (n x : ℕ) → getD (zeros n) x 0 ≡ 0
 zero-at zero x = refl
 zero-at (suc n) zero = refl
 zero-at (suc n) (suc x) = zero-at n x

@@ -44,7 +44,7 @@ use Rattle.tree_steps.specs.Structure as structure
 use Rattle.tree_steps.specs.Structure.{pushRect}
 use Rattle.tree_commit.specs.Commit.{commitCall, afterWork, commitRoom, roomAfter}
 use Rattle.tree_damage.proofs.Front.{rects-front, numbers-length, union-front}
-use Rattle.tree_laws.proofs.Whole.{Whole, WholeWorlds}
+use Rattle.tree_laws.specs.Whole.{Whole, WholeWorlds}
 use Rattle.tree_laws.proofs.Ground.{Linked, low, slot-live}
 use Rattle.tree_visits.proofs.Laws.{visits-low}
 use Rattle.tree_visits.proofs.Slots.{slots-once}
@@ -75,7 +75,8 @@ use Rattle.tree_run.specs.Run as tree
 use Rattle.demand3.specs.Damage.{Shown, shownAfter, shownIf, Seen, see, seen, rects, Damage, DamageTold}
 use Rattle.tree_run.proofs.Verdicts.{verdict, accepted, step-is, outcome-is}
 use Rattle.demand3.proofs.Theorem.{Meets, refused-same, removed-was, moved-was, inserted-was, some-number, zero-accepted, step-meets, meets-fresh}
-use Rattle.demand3.proofs.Soundness.{after, keeps-after, damage-fits, commit-calm}
+use Rattle.demand3.proofs.Soundness.{keeps-after, damage-fits, commit-calm}
+use Rattle.demand3.specs.Claims.{after}
 
 -- ---- the turns of a commit
 

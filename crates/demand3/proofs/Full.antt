@@ -28,21 +28,22 @@ use Rattle.tree_steps.specs.Structure.{parentLive, insertVerdict}
 use Rattle.tree_laws.proofs.Whole.{Whole, sized}
 use Rattle.tree_laws.proofs.Ground.{linked}
 use Rattle.tree_invariant.proofs.calls.Accepted.{checked-both}
-use Rattle.tree_invariant.proofs.commit.Finish.{count-none}
+use Rattle.agreement.proofs.worlds.Sound.{count-none}
 use Rattle.tree_invariant.proofs.remove.Counts.{below-more}
 use Rattle.tree_run.specs.Run as tree
 use Rattle.plan.specs.Calls as call
 use Rattle.plan.specs.Calls.{Call, Outcome}
 use Rattle.demand3.specs.Full.{liveNodes, Insertable, FullAt256}
 use Rattle.tree_run.proofs.Verdicts.{verdict, outcome-is}
-use Rattle.demand3.proofs.Soundness.{after, keeps-after}
+use Rattle.demand3.proofs.Soundness.{keeps-after}
+use Rattle.demand3.specs.Claims.{after}
 
 -- ---- how many nodes are live
 
 -- a list of numbers below n, none twice: as many numbers below n stand in it as it is long
 count-list : (n : ℕ) (l : List ℕ) → ((x : ℕ) → times x l ≤ 1) → ((x : ℕ) → n ≤ x → times x l ≡ 0) → countBelow n (λ x. ltb 0 (times x l)) ≡ length l
 unfolding times
-count-list n [] once low = count-none n (λ x. ltb 0 0) (λ x h. le-ltb 0 0 (omega arith))
+count-list n [] once low = count-none n (λ x. ltb 0 0) (λ x. le-ltb 0 0 (omega arith))
 count-list n (y ∷ l) once low =
     let alone : times y l ≡ 0 = omega (arith, once y, hit y) in
     let below : y < n = elim (decLt y n) [ yes h ↦ h | no g ↦ absurd (omega (arith, low y (omega arith), hit y)) ] in

@@ -25,7 +25,8 @@ use Rattle.tree_run.specs.Told.{childrenTold}
 use Rattle.agreement_calls.proofs.Verdicts.{children-reading-refused}
 use Rattle.tree_run.proofs.Verdicts.{children-is}
 use Rattle.demand3.proofs.Theorem.{answer-with}
-use Rattle.demand3.proofs.Soundness.{after, meets-after}
+use Rattle.demand3.proofs.Soundness.{meets-after}
+use Rattle.demand3.specs.Claims.{after}
 use Rattle.demand3.proofs.Readings.{node-there, plan-after, Answered, accepted}
 
 -- the first of a list, or none

@@ -24,7 +24,8 @@ use Rattle.tree_readings.specs.declared.answers.AnswerLevel.the-variants as lev
 use Rattle.tree_readings.specs.declared.answers.AnswerFlags.the-variants as flags
 use Rattle.tree_readings.specs.answers.Answers as reads
 use Rattle.agreement_calls.proofs.Tests.{live-same, needs-same, held-accepted}
-use Rattle.agreement.proofs.worlds.Committed.{Afresh, calm-right}
+use Rattle.agreement.proofs.worlds.Committed.{calm-right}
+use Rattle.agreement.specs.Afresh.{Afresh}
 use Rattle.plan.specs.Plan as plan
 use Rattle.plan.specs.Plan.{Plan}
 use Rattle.plan.specs.Afresh.{worldPlace, worldBounds, worldHitBounds}
@@ -33,7 +34,8 @@ use Rattle.plan.specs.Calls.{Call, Reading, Conditions, accept, _else_then_, lo
 use Rattle.plan.specs.Demand.{run}
 use Rattle.tree_run.proofs.Verdicts.{readingVerdict, verdict}
 use Rattle.demand3.proofs.Theorem.{refused-same, zero-accepted}
-use Rattle.demand3.proofs.Soundness.{after, meets-after}
+use Rattle.demand3.proofs.Soundness.{meets-after}
+use Rattle.demand3.specs.Claims.{after}
 
 -- ---- what a plan that does not refuse has tested
 

@@ -27,7 +27,8 @@ use Rattle.plan.specs.Plan.{Plan}
 use Rattle.plan.specs.Calls as call
 use Rattle.plan.specs.Calls.{Call, refusal}
 use Rattle.demand3.proofs.Theorem.{refused-same, zero-accepted}
-use Rattle.demand3.proofs.Soundness.{after, meets-after}
+use Rattle.demand3.proofs.Soundness.{meets-after}
+use Rattle.demand3.specs.Claims.{after}
 use Rattle.demand3.proofs.Readings.{plan-after}
 
 module _ (calls : List Call) where

@@ -16,16 +16,18 @@ use Rattle.tree_state.specs.Tree.{freshTree, committedAt}
 use Rattle.tree_state.specs.Sound.{SoundTree, soundTree}
 use Rattle.tree_sound.proofs.Exact.{decides}
 use Rattle.tree_steps.specs.Commit.{visitsOf, reworkAll, begun, commitTree}
-use Rattle.tree_laws.proofs.Whole.{Whole, sized, whole-fresh}
+use Rattle.tree_laws.proofs.Whole.{sized, whole-fresh}
+use Rattle.tree_laws.specs.Whole.{Whole}
 use Rattle.tree_rework.specs.preconditions.Fits.{slotAt}
 use Rattle.tree_invariant.proofs.calls.Setters as setters
 use Rattle.tree_invariant.proofs.calls.Insert.{keep-insert}
 use Rattle.tree_invariant.proofs.calls.Reparent.{keep-reparent}
 use Rattle.tree_invariant.proofs.remove.Keep.{keep-remove}
 use Rattle.tree_invariant.proofs.commit.Keep.{ready, few, keep-commit}
-use Rattle.tree_invariant.proofs.commit.After.{Calm, after-commit}
+use Rattle.tree_invariant.proofs.commit.After.{after-commit}
+use Rattle.tree_invariant.specs.commit.Calm.{Calm}
 use Rattle.agreement_calls.proofs.Fresh.{sound-fresh}
-use Rattle.agreement.proofs.worlds.Committed.{Afresh}
+use Rattle.agreement.specs.Afresh.{Afresh}
 use Rattle.agreement.proofs.worlds.Committed as committed
 use Rattle.agreement_calls.proofs.commit.Visited.{visited-linked}
 use Rattle.tree_run.specs.Run as tree
@@ -34,12 +36,10 @@ use Rattle.plan.specs.Calls as call
 use Rattle.plan.specs.Calls.{Call, Reading, Conditions, accept, _else_then_, lowest}
 use Rattle.plan.specs.Demand.{run}
 use Rattle.tree_run.proofs.Verdicts.{verdict, accepted, step-is}
+use Rattle.demand3.specs.Claims.{Keeps, after}
 use Rattle.demand3.proofs.Theorem.{Meets, run-meets, meets-fresh, outcome-same}
 
 -- ---- every call keeps soundness, of every sound tree
-
-abbrev pub Keeps : Tree → Type 0
-Keeps t = Whole t × SoundTree t
 
 accepted-keeps : (t : Tree) → Whole t → SoundTree t → (c : Call) → verdict t c ≡ is.Accepted → Keeps (accepted t c)
 unfolding verdict accepted
@@ -65,10 +65,6 @@ run-keeps [] t w S = (w, S)
 run-keeps (c ∷ cs) t w S = let k = step-keeps t c w S in run-keeps cs (tree.step t c) (k .0) (k .1)
 
 -- ---- from fresh
-
--- the tree after a list of calls
-abbrev pub after : List Call → Tree
-after calls = run tree.step freshTree calls
 
 pub keeps-after : (calls : List Call) → Keeps (after calls)
 keeps-after calls = run-keeps calls freshTree whole-fresh sound-fresh

@@ -13,6 +13,7 @@ use lib.Ieee.Fits.{up-pos, down-pos}
 use lib.Ieee.Scale.{round-same}
 use Rattle.numbers.specs.Rounded as const
 use Rattle.numbers.specs.Rounded.{_⊕_, _⊖_, _⊗_, _⊘_}
+use Rattle.numbers.proofs.Bools.{and-left}
 use Rattle.geometry.specs.declared.point.Point.{Point}
 use Rattle.geometry.specs.declared.rect.Rect.{Rect}
 use Rattle.geometry.specs.declared.insets.Insets.{Insets}
@@ -27,13 +28,7 @@ use Rattle.plan.specs.Lists.{keep}
 use Rattle.plan.specs.Plan.{Plan, nodes}
 use Rattle.plan.specs.Afresh.{placedOn, candidate, larger, Hit, nothing, node, better, largest, Tap, hit, tapOf, tap}
 use Rattle.plan.specs.Demand.{Answer, refused, tapped, listed, answerIf}
-
--- a..d are 0 as numbers
-pub record Flat (t : Affine) : Type 0 where
-  pub a : eq (t .a) const.zero ≡ true
-  pub b : eq (t .b) const.zero ≡ true
-  pub c : eq (t .c) const.zero ≡ true
-  pub d : eq (t .d) const.zero ≡ true
+use Rattle.examples.specs.Examples.{Flat}
 
 -- ---- zero or NaN
 
@@ -50,10 +45,6 @@ nothing-of : (m : ℕ) (e : ℤ) → m * up e * 1 ≡ 0 → m ≡ 0
 nothing-of zero e h = refl
 nothing-of (suc m) e h = absurd (lt-irrefl 0 (rw h at (mul-pos (mul-pos (zero-lt-suc m) (up-pos e)) (zero-lt-suc 0))))
 
-first-of : (a b : Bool) → a && b ≡ true → a ≡ true
-first-of true b h = refl
-first-of false b h = h
-
 equal-of : (m n : ℕ) → eqb m n ≡ true → m ≡ n
 equal-of m n h = eqb→eq m n (rw h tt)
 
@@ -62,7 +53,7 @@ unfolding eq
 void-of nan h = no-number
 void-of (inf s) h = absurd (false≢true h)
 void-of (fin s m e) h =
-    let z : m ≡ 0 = nothing-of m e (equal-of (m * up e * 1) (0 * 1 * down e) (first-of _ _ h) ∙ zero-mul (down e)) in
+    let z : m ≡ 0 = nothing-of m e (equal-of (m * up e * 1) (0 * 1 * down e) (and-left _ _ h) ∙ zero-mul (down e)) in
     rw z (nought s e)
 
 -- ---- sums and products of them

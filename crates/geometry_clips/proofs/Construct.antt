@@ -1,7 +1,7 @@
 -- The constructor of clips: idempotent to the bit on every clip, finite values stay finite, and never four zero radii on a rounded clip.
 use mathlib.Core.Path.{_≡_, refl, sym, ap, _∙_}
-use mathlib.Core.Bool.{true, false}
-use lib.Ieee.{Float, eq}
+use mathlib.Core.Bool.{Bool, true, false, _&&_}
+use lib.Ieee.{Float, le, eq}
 use lib.Ieee.Scale.{finite}
 use Rattle.numbers.specs.Rounded as const
 use Rattle.numbers.specs.Number.{minimum, magnitude}
@@ -16,7 +16,20 @@ use Rattle.geometry_clips.specs.declared.clip.Clip.{Clip}
 use Rattle.geometry_clips.specs.declared.clip.Clip.the-variants as is
 use Rattle.geometry_clips.specs.declared.clip_rect.ClipRect.{ClipRect}
 use Rattle.geometry_clips.specs.declared.clip_rect.ClipRect.the-variants as of
-use Rattle.geometry_clips.specs.Clips.{all, cap, fitted, square, rounded, shaped, constructed, clipRect, clipRadii, noRadii, constructedOf, finiteClipRect, finiteClip, zeroRadii, inOrder}
+use Rattle.geometry_clips.specs.Clips.{radii, all, cap, fitted, square, rounded, shaped, constructed, clipRect, clipRadii, noRadii, constructedOf, finiteClipRect, finiteClip}
+
+-- ---- what laws say of a constructed clip
+
+-- a rounded clip all of whose radii are 0
+abbrev pub zeroRadii : Clip → Bool
+zeroRadii is.None = false
+zeroRadii (is.Square x0 y0 x1 y1) = false
+zeroRadii (is.Rounded x0 y0 x1 y1 tl tr br bl) = all (λ x. eq x const.zero) (radii tl tr br bl)
+
+-- the rectangle, where there is one, has its corners in order
+abbrev pub inOrder : ClipRect → Bool
+inOrder of.None = true
+inOrder (of.Some r) = le (r .x0) (r .x1) && le (r .y0) (r .y1)
 
 -- ---- the cap and the radii
 

@@ -1,8 +1,8 @@
 -- Clips (document 01, module 2): none, square, or rounded with four radii, in the order top left, top right, bottom right, bottom
 -- left. A clip is read by its rectangle and its radii: "square means all radii 0". Below, `is.` marks the cases of `Clip`, and `of.` those of
 -- `ClipRect`, a clip's rectangle if there is a clip.
-use mathlib.Core.Bool.{Bool, true, false, _&&_, cond}
-use lib.Ieee.{le, eq}
+use mathlib.Core.Bool.{Bool, true, _&&_, cond}
+use lib.Ieee.{eq}
 use lib.Ieee.Scale.{finite}
 use Rattle.geometry.specs.declared.point.Point.{Point}
 use Rattle.geometry.specs.declared.rect.Rect.{Rect}
@@ -68,16 +68,3 @@ clipEq c d = clipRectEq (clipRect c) (clipRect d) && radiiEq (clipRadii c) (clip
 
 unfoldable pub finiteClip : Clip → Bool
 finiteClip c = finiteClipRect (clipRect c) && all finite (clipRadii c)
-
--- ---- what laws say of a constructed clip
-
--- a rounded clip all of whose radii are 0
-abbrev pub zeroRadii : Clip → Bool
-zeroRadii is.None = false
-zeroRadii (is.Square x0 y0 x1 y1) = false
-zeroRadii (is.Rounded x0 y0 x1 y1 tl tr br bl) = all (λ x. eq x zero) (radii tl tr br bl)
-
--- the rectangle, where there is one, has its corners in order
-abbrev pub inOrder : ClipRect → Bool
-inOrder of.None = true
-inOrder (of.Some r) = le (r .x0) (r .x1) && le (r .y0) (r .y1)

@@ -1,7 +1,5 @@
--- The backend has no box for an empty slot and for an entry that is only added, and one for every other entry; an entry without a mark has
--- its own box there. A commit keeps that.
+-- A commit keeps the backend and the entries in agreement.
 use mathlib.Core.Path.{_≡_, sym, _∙_, subst}
-use mathlib.Core.Bool.{Bool, _||_}
 use mathlib.Core.List.{List}
 use Prim.Native.Nat.{ℕ, zero, suc, _≤_, _<_}
 use native.Mathlib.Numerals.{add-one}
@@ -14,23 +12,9 @@ use lib.Ieee.{Float}
 use Rattle.index_types.specs.flat_tables.Tables.{boxAt, putBox}
 use Rattle.index_types.proofs.flat_tables.Laws.{box-same, box-other, box-length}
 use Rattle.index_commit.specs.Commit.{Act, rests, adds, moves, drops, actOf, markStep, presentStep, boxesStep, Work, workStep, work}
+use Rattle.index_commit.specs.Agree.{Has, unseen, Agree}
 use Rattle.index_commit.proofs.Loop.{work-next}
 use Rattle.index_commit.proofs.Keep.{other}
-
--- the backend has a box for the slot, and it is this table's
-abbrev pub Has : List ℕ → List Float → List Float → ℕ → Type 0
-Has present boxes aabb x = (getD present x 0 ≡ 0 → ⊥) × (boxAt boxes x ≡ boxAt aabb x)
-
--- the mark of an empty slot, or of an entry that is only added
-abbrev pub unseen : ℕ → Bool
-unseen m = eqb m 0 || eqb m 2
-
-pub record Agree (mark present : List ℕ) (boxes aabb : List Float) : Type 0 where
-  pub mark-whole : length mark ≡ 512
-  pub present-whole : length present ≡ 512
-  pub boxes-whole : length boxes ≡ 2048
-  pub own : (x : ℕ) → getD mark x 0 ≡ 1 → Has present boxes aabb x
-  pub none : (x : ℕ) → eqb (getD present x 0) 0 ≡ unseen (getD mark x 0)
 
 module _ (aabb : List Float) (mark present : List ℕ) (boxes : List Float) (A : Agree mark present boxes aabb) (x : ℕ) (h : x < 512) where
   -- another slot's box and flag are as they were

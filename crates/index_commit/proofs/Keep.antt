@@ -12,7 +12,7 @@ use lib.Dec.{eqb}
 use Rattle.index_types.specs.flat_tables.Tables.{boxAt}
 use Rattle.counting.specs.Times.{tally, times}
 use Rattle.counting.proofs.Counting.{hit, miss, times-next}
-use Rattle.index_sound.proofs.Exact.{CountOf}
+use Rattle.index_sound.specs.Sound.{CountOf}
 use Rattle.index_entries.specs.Entries.{previousAt}
 use Rattle.index_commit.specs.Commit.{Act, rests, adds, moves, drops, actOf, markStep, Work, workStep, work}
 use Rattle.index_commit.proofs.Loop.{Does, does, nothing, add, move, drop, keep-slot, mark-length, free-length, slot-low, work-next}

@@ -11,14 +11,14 @@ use lib.Ieee.{Float}
 use Rattle.index_types.specs.declared.Aabb2D.{Aabb2D}
 use Rattle.index_types.specs.flat_tables.Tables.{boxAt}
 use Rattle.counting.proofs.Counting.{times-at}
-use Rattle.index_sound.proofs.Exact.{CountOf}
+use Rattle.index_sound.specs.Sound.{CountOf}
 use Rattle.index_entries.specs.declared.reads.Previous.{Previous}
 use Rattle.index_entries.specs.declared.reads.Previous.the-variants as was
 use Rattle.index_entries.specs.Entries.{previousAt}
 use Rattle.index_entries.proofs.Keep.{settled, freed, free-room}
 use Rattle.index_commit.specs.declared.Change.{Change}
 use Rattle.index_commit.specs.declared.Done.{Done}
-use Rattle.index_commit.specs.Commit.{Act, rests, adds, moves, drops, actOf, markStep, keptStep, freeStep, presentStep, boxesStep, changeOf, movedFrom, movedTo, inFront, boxesWith, roomWith, countWith, Work, workStep, work, Leaves, Lays}
+use Rattle.index_commit.specs.Commit.{Act, rests, adds, moves, drops, actOf, markStep, keptStep, freeStep, presentStep, boxesStep, changeOf, movedFrom, movedTo, boxesInFront, boxesWith, roomWith, countWith, Work, workStep, work, Leaves, Lays}
 use Rattle.index_commit.proofs.Acts.{act-rests, act-adds, act-moves, act-drops}
 use Rattle.index_commit.proofs.Rooms.{front-push, count-push, count-small, push-length}
 
@@ -168,7 +168,7 @@ pair moves f b p m = both (movedFrom p b)
 pair drops f b p m = refl
 
 -- the room, from what a push has done to it
-room-step : (bs : List Aabb2D) (room₀ room room' : List Float) (n : ℕ) (p : Previous) → room ≡ inFront bs room₀ → n ≡ length bs → n < 512 → 2048 ≤ length room₀ → room' ≡ roomWith room n p → room' ≡ inFront (boxesWith bs p) room₀
+room-step : (bs : List Aabb2D) (room₀ room room' : List Float) (n : ℕ) (p : Previous) → room ≡ boxesInFront bs room₀ → n ≡ length bs → n < 512 → 2048 ≤ length room₀ → room' ≡ roomWith room n p → room' ≡ boxesInFront (boxesWith bs p) room₀
 room-step bs room₀ room room' n p e en h l e' = e' ∙ rw (e, en) (front-push bs room₀ (omega arith) p)
 
 long-step : (room₀ room room' : List Float) (n : ℕ) (p : Previous) → Long room₀ room → room' ≡ roomWith room n p → Long room₀ room'

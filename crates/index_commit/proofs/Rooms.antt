@@ -12,7 +12,7 @@ use Rattle.index_types.specs.flat_tables.Tables.{ofBox, putBox}
 use Rattle.index_types.proofs.flat_tables.Laws.{box-length}
 use Rattle.index_entries.specs.declared.reads.Previous.{Previous}
 use Rattle.index_entries.specs.declared.reads.Previous.the-variants as was
-use Rattle.index_commit.specs.Commit.{flat, inFront, boxesWith, roomWith, countWith}
+use Rattle.index_commit.specs.Commit.{flat, boxesInFront, boxesWith, roomWith, countWith}
 
 flat-length : (bs : List Aabb2D) → length (flat bs) ≡ 4 * length bs
 unfolding flat
@@ -28,13 +28,13 @@ more : (bs : List Aabb2D) (b : Aabb2D) → length (bs ++ (b ∷ [])) ≡ length 
 more bs b = length-append bs (b ∷ [])
 
 -- no box leaves the room as it was
-pub front-none : (room : List Float) → room ≡ inFront [] room
-unfolding inFront flat
+pub front-none : (room : List Float) → room ≡ boxesInFront [] room
+unfolding boxesInFront flat
 front-none room = refl
 
 module _ (bs : List Aabb2D) (room : List Float) (h : 4 * length bs + 4 ≤ length room) where
-  front-one : (b : Aabb2D) → putBox (inFront bs room) (length bs) b ≡ inFront (bs ++ (b ∷ [])) room
-  unfolding putBox inFront
+  front-one : (b : Aabb2D) → putBox (boxesInFront bs room) (length bs) b ≡ boxesInFront (bs ++ (b ∷ [])) room
+  unfolding putBox boxesInFront
   front-one b =
       let n = 4 * length bs in
       let l = flat bs ++ drop n room in
@@ -43,7 +43,7 @@ module _ (bs : List Aabb2D) (room : List Float) (h : 4 * length bs + 4 ≤ lengt
       let e : 4 * (length bs + 1) ≡ n + 4 = omega arith in
       rw (sets-eq (ofBox b) l n long, take-at (flat bs) (drop n room) n fl, ← drop-drop 4 n l, drop-at (flat bs) (drop n room) n fl, drop-drop 4 n room, flat-append bs b, more bs b, e)
 
-  pub front-push : (p : Previous) → roomWith (inFront bs room) (length bs) p ≡ inFront (boxesWith bs p) room
+  pub front-push : (p : Previous) → roomWith (boxesInFront bs room) (length bs) p ≡ boxesInFront (boxesWith bs p) room
   front-push was.None = refl
   front-push (was.Some b) = front-one b
 

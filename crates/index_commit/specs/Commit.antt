@@ -84,8 +84,8 @@ unfoldable pub flat : List Aabb2D → List Float
 flat [] = []
 flat (b ∷ bs) = ofBox b ++ flat bs
 
-unfoldable pub inFront : List Aabb2D → List Float → List Float
-inFront bs room = flat bs ++ drop (4 * length bs) room
+unfoldable pub boxesInFront : List Aabb2D → List Float → List Float
+boxesInFront bs room = flat bs ++ drop (4 * length bs) room
 
 -- one more box, or none
 abbrev pub boxesWith : List Aabb2D → Previous → List Aabb2D
@@ -159,7 +159,7 @@ pub record Leaves (w : Work) (mark kept free present : List ℕ) (boxes : List F
 
 -- what it leaves in the rooms
 pub record Lays (w : Work) (added removed old new added' removed' old' new' : List Float) : Type 0 where
-  pub added-lies : added' ≡ inFront (w .added) added
-  pub removed-lies : removed' ≡ inFront (w .removed) removed
-  pub old-lies : old' ≡ inFront (w .old) old
-  pub new-lies : new' ≡ inFront (w .new) new
+  pub added-lies : added' ≡ boxesInFront (w .added) added
+  pub removed-lies : removed' ≡ boxesInFront (w .removed) removed
+  pub old-lies : old' ≡ boxesInFront (w .old) old
+  pub new-lies : new' ≡ boxesInFront (w .new) new

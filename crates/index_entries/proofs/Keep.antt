@@ -11,8 +11,7 @@ use lib.ListN.{length, take, getD, set, length-set}
 use lib.Seq.{getD-set-same, getD-set-other, length-take-le}
 use Rattle.counting.specs.Times.{tally, times}
 use Rattle.counting.proofs.Counting.{tally-small, hit, miss, times-next, times-put, times-at, shorter}
-use Rattle.index_sound.specs.Sound.{empty}
-use Rattle.index_sound.proofs.Exact.{SlotOf, CountOf}
+use Rattle.index_sound.specs.Sound.{empty, SlotOf, CountOf}
 use Rattle.index_entries.specs.declared.reads.Mark.{Mark}
 use Rattle.index_entries.specs.declared.reads.Mark.the-variants as is
 use Rattle.index_entries.specs.Entries.{stands, queueWith, lengthWith, markOf, slotFor, usedFor, unmarked, added, updatedMark, removedMark}

@@ -13,7 +13,7 @@ use Rattle.index_types.specs.declared.Aabb2D.{Aabb2D}
 use Rattle.index_types.specs.Boxes.{aabb, overlaps, containsPoint}
 use Rattle.index_types.specs.flat_tables.Stride.{store}
 use Rattle.index_types.specs.flat_tables.Tables.{boxAt, idAt}
-use Rattle.index_query.specs.Query.{visits, visitsPoint, slots, words, entries, inFront}
+use Rattle.index_query.specs.Query.{visits, visitsPoint, slots, words, entries, entriesInFront}
 
 -- ---- slots
 
@@ -65,7 +65,7 @@ module _ (generation payload : List ℕ) where
   entries-append (y ∷ xs) x = rw (entries-append xs x)
 
   front-one : (xs : List ℕ) (room : List ℕ) (x : ℕ) → 4 * length xs + 4 ≤ length room
-      → store 4 (inFront (entries generation payload xs) room) (length xs) (words x (getD generation x 0) (idAt payload x)) ≡ inFront (entries generation payload (xs ++ (x ∷ []))) room
+      → store 4 (entriesInFront (entries generation payload xs) room) (length xs) (words x (getD generation x 0) (idAt payload x)) ≡ entriesInFront (entries generation payload (xs ++ (x ∷ []))) room
   front-one xs room x h =
       let es = entries generation payload xs in
       let ws = words x (getD generation x 0) (idAt payload x) in
@@ -78,7 +78,7 @@ module _ (generation payload : List ℕ) where
 
   -- one more slot is looked at
   pub record Listed (p : ℕ → Bool) (room₀ room : List ℕ) (n x : ℕ) : Type 0 where
-    pub lies : room ≡ inFront (entries generation payload (slots x p)) room₀
+    pub lies : room ≡ entriesInFront (entries generation payload (slots x p)) room₀
     pub many : n ≡ length (slots x p)
     pub few : n ≤ x
 

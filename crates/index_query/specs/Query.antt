@@ -32,5 +32,5 @@ entries generation payload [] = []
 entries generation payload (x ∷ xs) = words x (getD generation x 0) (idAt payload x) ++ entries generation payload xs
 
 -- the entries stand in front of the room; what is behind them is as it was
-abbrev pub inFront : List ℕ → List ℕ → List ℕ
-inFront es room = es ++ drop (length es) room
+abbrev pub entriesInFront : List ℕ → List ℕ → List ℕ
+entriesInFront es room = es ++ drop (length es) room

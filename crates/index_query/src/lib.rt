@@ -60,7 +60,7 @@ pub fn visit_rect<'a>(
     requires { ⌜ 2048 ≤ length (now room) ⌝ }
     ensures { λ r. ⌜
         (let found = spec.slots 512 (spec.visits (now (present .entry)) (now (boxes .entry)) (now (mark .entry)) rect) in
-        (now (room .exit) ≡ spec.inFront (spec.entries (now (generation .entry)) (now (payload .entry)) found) (now (room .entry)))
+        (now (room .exit) ≡ spec.entriesInFront (spec.entries (now (generation .entry)) (now (payload .entry)) found) (now (room .entry)))
         × (r ≡ length found))
         ⌝ }
 {

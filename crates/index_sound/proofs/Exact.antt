@@ -13,14 +13,9 @@ use Rattle.counting.specs.Lists.{Tells, onceBelow}
 use Rattle.counting.proofs.Counting.{tally-small}
 use Rattle.counting.proofs.Kit.{both, at-most, less, equal, every-tells, through, unless}
 use Rattle.counting.proofs.Words.{OnceBelow, once-below-tells, find, seen, small, once-of}
-use Rattle.index_sound.specs.Sound.{Empty, SoundOf, empty, slotRight, soundOf}
+use Rattle.index_sound.specs.Sound.{Empty, SoundOf, empty, slotRight, soundOf, SlotOf, CountOf}
 
 -- ---- one slot
-
-pub record SlotOf (x used mark free queue : ℕ) : Type 0 where
-  pub past : used ≤ x → mark ≡ 0
-  pub counted : free ≡ tally (ltb x used && eqb mark 0)
-  pub waits : 2 ≤ mark → queue ≡ 1
 
 slot-tells : (x used mark free queue : ℕ) → Tells (slotRight x used mark free queue) (SlotOf x used mark free queue)
 slot-tells x used mark free queue =
@@ -34,14 +29,6 @@ slot-tells x used mark free queue =
     not-less a b n = elim (decLt a b) [ yes l ↦ absurd (n l) | no m ↦ omega arith ]
 
 -- ---- the tables, by counting
-
-pub record CountOf (mark free : List ℕ) (frees : ℕ) (dirty : List ℕ) (queued used : ℕ) : Type 0 where
-  pub used-fits : used ≤ 512
-  pub free-fits : frees ≤ 512
-  pub queue-fits : queued ≤ 512
-  pub slot : (x : ℕ) → SlotOf x used (getD mark x 0) (times x (take frees free)) (times x (take queued dirty))
-  pub low : (x : ℕ) → 512 ≤ x → times x (take queued dirty) ≡ 0
-  pub once : (x : ℕ) → times x (take queued dirty) ≤ 1
 
 module _ (mark free : List ℕ) (frees : ℕ) (dirty : List ℕ) (queued used : ℕ) (lm : length mark ≡ 512) (lf : length free ≡ 512) (lq : length dirty ≡ 512) where
   abbrev Slot : ℕ → Type 0

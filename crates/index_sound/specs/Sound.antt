@@ -48,3 +48,18 @@ soundOf mark free frees dirty queued used =
     && (onceBelow 512 free frees
     && (onceBelow 512 dirty queued
     && every 512 (λ x. slotRight x used (getD mark x 0) (times x (take frees free)) (times x (take queued dirty)))))
+
+-- ---- the same by counting: how often a slot stands in the free list and in the queue
+
+pub record SlotOf (x used mark free queue : ℕ) : Type 0 where
+  pub past : used ≤ x → mark ≡ 0
+  pub counted : free ≡ tally (ltb x used && eqb mark 0)
+  pub waits : 2 ≤ mark → queue ≡ 1
+
+pub record CountOf (mark free : List ℕ) (frees : ℕ) (dirty : List ℕ) (queued used : ℕ) : Type 0 where
+  pub used-fits : used ≤ 512
+  pub free-fits : frees ≤ 512
+  pub queue-fits : queued ≤ 512
+  pub slot : (x : ℕ) → SlotOf x used (getD mark x 0) (times x (take frees free)) (times x (take queued dirty))
+  pub low : (x : ℕ) → 512 ≤ x → times x (take queued dirty) ≡ 0
+  pub once : (x : ℕ) → times x (take queued dirty) ≤ 1

@@ -11,6 +11,7 @@ use lib.Dec.{eqb}
 use lib.ListN.{getD, set, length-set}
 use lib.Seq.{getD-set-same, getD-set-other}
 use lib.Ieee.{Float}
+use Rattle.numbers.proofs.Bools.{split}
 use Rattle.index_types.specs.declared.Aabb2D.{Aabb2D}
 use Rattle.index_types.specs.declared.NodeId.{NodeId}
 use Rattle.index_types.specs.declared.Key.{Key}
@@ -20,7 +21,7 @@ use Rattle.index_types.proofs.flat_tables.Laws.{box-other}
 use Rattle.counting.specs.Times.{tally, times}
 use Rattle.counting.proofs.Counting.{hit, miss, times-append}
 use Rattle.counting.proofs.Kit.{contra}
-use Rattle.counting.proofs.Counts.{zeros}
+use Rattle.counting.proofs.Counts.{zero-at}
 use Rattle.index_entries.specs.declared.reads.Mark.{Mark}
 use Rattle.index_entries.specs.declared.reads.Mark.the-variants as is
 use Rattle.index_entries.specs.Entries.{updatedMark, removedMark}
@@ -29,15 +30,14 @@ use Rattle.index_entries.proofs.Keep.{entry-used, slot-fits, slot-empty, Kind, 
 use Rattle.index_commit.specs.Commit.{start}
 use Rattle.index_commit.proofs.Loop.{slot-low}
 use Rattle.index_commit.proofs.Keep.{unmarked}
-use Rattle.index_commit.proofs.Agree.{Has, unseen, Agree, own-work}
+use Rattle.index_commit.proofs.Agree.{own-work}
+use Rattle.index_commit.specs.Agree.{Has, unseen, Agree}
 use Rattle.index_query.specs.Query.{slots}
 use Rattle.index_state.specs.declared.Index.{Index}
 use Rattle.index_state.specs.Index.{full, freshIndex, slotOf, insertOf, live, markAt, updateOf, removeOf, short, workOf, commitOf, rectSlots, pointSlots}
 use Rattle.index_state.specs.Run.{Call, insert, update, remove, clear, commit, query-rect, query-point, after, run}
-use Rattle.index_state.proofs.Soundness.{Kept, counts, split, room-left, fresh-kept, after-kept, run-kept, insert-full, insert-room, update-live, update-dead, remove-live, remove-dead, clear-all, commit-short, commit-long}
-
-abbrev pub Own : Index → Type 0
-Own ix = Agree (ix .mark) (ix .backend .present) (ix .backend .boxes) (ix .aabb)
+use Rattle.index_state.specs.Claims.{Own, Visited}
+use Rattle.index_state.proofs.Soundness.{Kept, counts, room-left, fresh-kept, after-kept, run-kept, insert-full, insert-room, update-live, update-dead, remove-live, remove-dead, clear-all, commit-short, commit-long}
 
 -- a slot that gets a mark, or is emptied, asks that it had a box before if it has to have one now; the others are as they were
 pub away : (mark present : List ℕ) (boxes aabb aabb' : List Float) (x v : ℕ) → x < 512 → (v ≡ 1 → ⊥) → unseen (getD mark x 0) ≡ unseen v → ((y : ℕ) → (y ≡ x → ⊥) → boxAt aabb' y ≡ boxAt aabb y)
@@ -115,14 +115,9 @@ module _ (ix : Index) (K : Kept ix) (O : Own ix) where
       unmarked (ix .aabb) (ix .prev) (ix .dirty) (ix .queued) (ix .used) (start (ix .mark) (ix .kept) (ix .free) (ix .frees) (ix .backend .present) (ix .backend .boxes)) (counts ix K) (S .mark-whole) (S .free-whole) (S .dirty-whole) x
 
 -- a fresh index has no entry
-empty-table : (n x : ℕ) → getD (zeros n) x 0 ≡ 0
-empty-table zero x = refl
-empty-table (suc n) zero = refl
-empty-table (suc n) (suc x) = empty-table n x
-
 fresh-own : Own freshIndex
 unfolding freshIndex
-fresh-own = record { mark-whole = refl; present-whole = refl; boxes-whole = refl; own = λ x e. absurd (omega (arith, empty-table 512 x)); none = λ x. rw (empty-table 512 x) }
+fresh-own = record { mark-whole = refl; present-whole = refl; boxes-whole = refl; own = λ x e. absurd (omega (arith, zero-at 512 x)); none = λ x. rw (zero-at 512 x) }
 
 after-own : (ix : Index) (c : Call) → Kept ix → Own ix → Own (after ix c)
 unfolding after
@@ -211,14 +206,6 @@ module _ (p : ℕ → Bool) (x : ℕ) where
         | yes e ↦ rw (← e) (omega (arith, slots-past x (omega arith), last-same (p x)))
         | no d ↦ omega (arith, slots-below n (omega arith), last-other (p n) n d)
       ])
-
--- how often a query, whose test of a box is q, visits a slot: an empty slot and an entry that is only added never; an entry without a mark
--- once if its own box passes; one that is updated or removed once if the box passes that the last commit has left
-pub record Visited (ix : Index) (q : Aabb2D → Bool) (x n : ℕ) : Type 0 where
-  pub empty : getD (ix .mark) x 0 ≡ 0 → n ≡ 0
-  pub added : getD (ix .mark) x 0 ≡ 2 → n ≡ 0
-  pub unmarked : getD (ix .mark) x 0 ≡ 1 → n ≡ tally (q (boxAt (ix .aabb) x))
-  pub marked : 3 ≤ getD (ix .mark) x 0 → n ≡ tally (q (boxAt (ix .backend .boxes) x))
 
 module _ (ix : Index) (K : Kept ix) (O : Own ix) (q : Aabb2D → Bool) where
   abbrev test : ℕ → Bool

@@ -15,7 +15,7 @@ use Rattle.index_types.specs.Boxes as box
 use Rattle.index_entries.specs.declared.reads.Entry.{Entry}
 use Rattle.index_entries.specs.Entries.{queueWith, lengthWith, usedFor, entryAt, unmarked, added, updatedMark, removedMark}
 use Rattle.index_commit.specs.declared.Done.{Done}
-use Rattle.index_commit.specs.Commit.{inFront, Leaves, Lays}
+use Rattle.index_commit.specs.Commit.{Leaves, Lays}
 use Rattle.index_query.specs.Query as query
 use Rattle.index_query.proofs.Visits.{point-slots}
 use Rattle.index_state.specs.declared.Index.{Index}
@@ -112,7 +112,7 @@ module _ (ix : Index) (k : Key) where
 
 -- ---- commit
 
-or-none : (a b : Bool) → a || b ≡ false → (a ≡ false) × (b ≡ false)
+pub or-none : (a b : Bool) → a || b ≡ false → (a ≡ false) × (b ≡ false)
 or-none false false h = (refl, refl)
 or-none false true h = (refl, h)
 or-none true b h = (h, sym (cc))
@@ -182,7 +182,7 @@ module _ (ix : Index) (added removed old new : List Float) where
 -- ---- queries
 
 module _ (ix : Index) (xs room : List ℕ) (S : not (soundIndex ix) ≡ false) (F : ltb (length room) 2048 ≡ false) where
-  pub query-done : (room' : List ℕ) (n : ℕ) → room' ≡ query.inFront (query.entries (ix .generation) (ix .payload) xs) room → n ≡ length xs
+  pub query-done : (room' : List ℕ) (n : ℕ) → room' ≡ query.entriesInFront (query.entries (ix .generation) (ix .payload) xs) room → n ≡ length xs
       → (queries.Entries n ≡ queryAnswer ix xs (length room)) × (room' ≡ queryRoom ix xs room)
   unfolding queryAnswer queryRoom
   query-done room' n e en = (rw (queryAnswer, S, F, en), rw (queryRoom, S, F) e)

@@ -20,11 +20,7 @@ use Rattle.index_state.specs.declared.After.{After}
 use Rattle.index_state.specs.declared.AfterInsert.{AfterInsert}
 use Rattle.index_state.specs.declared.AfterCommit.{AfterCommit}
 use Rattle.index_state.specs.Index.{numberOf, insertedNumber, answerNumber, committedNumber, queriedNumber, soundIndex, full, live, short, insertCall, updateCall, removeCall, clearCall, commitCall, queryAnswer}
-use Rattle.index_state.proofs.Soundness.{Shaped}
-
--- a number is 1 exactly where a fact fails
-abbrev Only : Type 0 → ℕ → Type 0
-Only P n = (n ≡ 1 → P → ⊥) × ((P → ⊥) → n ≡ 1)
+use Rattle.index_state.specs.Claims.{Only, Shaped}
 
 -- the answer of a call that asks for soundness first and then for its own refusal
 only : {A P : Type 0} (s t : Bool) → Tells s P → (f : A → ℕ) (a b c : A) (n : ℕ) → f a ≡ 1 → f b ≡ n → eqb n 1 ≡ false → f c ≡ 0 → Only P (f (cond (not s) a (cond t b c)))

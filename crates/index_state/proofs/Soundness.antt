@@ -12,8 +12,8 @@ use Rattle.counting.specs.Lists.{onceBelow}
 use Rattle.index_types.specs.declared.Aabb2D.{Aabb2D}
 use Rattle.index_types.specs.declared.NodeId.{NodeId}
 use Rattle.index_types.specs.declared.Key.{Key}
-use Rattle.index_sound.specs.Sound.{SoundOf, soundOf}
-use Rattle.index_sound.proofs.Exact.{CountOf, count-tells, decides}
+use Rattle.index_sound.specs.Sound.{SoundOf, soundOf, CountOf}
+use Rattle.index_sound.proofs.Exact.{count-tells, decides}
 use Rattle.index_entries.specs.declared.reads.Mark.{Mark}
 use Rattle.index_entries.specs.declared.reads.Mark.the-variants as is
 use Rattle.index_entries.specs.Entries.{queueWith, unmarked, added}
@@ -24,12 +24,8 @@ use Rattle.index_commit.specs.Commit.{start}
 use Rattle.index_state.specs.declared.Index.{Index}
 use Rattle.index_state.specs.Index.{soundIndex, full, freshIndex, slotOf, insertOf, insertCall, live, markAt, updateOf, updateCall, removeOf, removeCall, clearCall, short, workOf, commitOf, commitCall}
 use Rattle.index_state.specs.Run.{Call, insert, update, remove, clear, commit, query-rect, query-point, after, run}
-
--- the lengths of the tables, as every value of the type has them
-pub record Shaped (ix : Index) : Type 0 where
-  pub mark-whole : length (ix .mark) ≡ 512
-  pub free-whole : length (ix .free) ≡ 512
-  pub dirty-whole : length (ix .dirty) ≡ 512
+use Rattle.index_state.specs.Claims.{Shaped}
+use Rattle.numbers.proofs.Bools.{split}
 
 -- the shape of the tables, and the test of soundness passed
 pub record Kept (ix : Index) : Type 0 where
@@ -45,13 +41,9 @@ counts ix K = let S = K .shaped in count-tells (ix .mark) (ix .free) (ix .frees)
 keeps : (ix : Index) → Shaped ix → Counts ix → Kept ix
 keeps ix S C = record { shaped = S; sound = count-tells (ix .mark) (ix .free) (ix .frees) (ix .dirty) (ix .queued) (ix .used) (S .mark-whole) (S .free-whole) (S .dirty-whole) .1 C }
 
-pub split : {A : Type 0} (b : Bool) → (b ≡ true → A) → (b ≡ false → A) → A
-split true f g = f refl
-split false f g = g refl
-
 -- ---- lengths
 
-queue-length : (dirty : List ℕ) (n x : ℕ) → length (queueWith dirty n x) ≡ length dirty
+pub queue-length : (dirty : List ℕ) (n x : ℕ) → length (queueWith dirty n x) ≡ length dirty
 unfolding queueWith
 queue-length dirty n x = go (ltb 0 (times x (take n dirty)))
   where

@@ -14,7 +14,7 @@ use Rattle.index_types.specs.flat_tables.Tables.{boxAt, putBox, putId}
 use Rattle.index_sound.specs.Sound.{soundOf}
 use Rattle.index_entries.specs.declared.reads.Mark.{Mark}
 use Rattle.index_entries.specs.Entries.{queueWith, lengthWith, slotFor, usedFor, generationFor, markOf, liveKey, unmarked, added, updatedMark, removedMark}
-use Rattle.index_commit.specs.Commit.{inFront, Work, work, start}
+use Rattle.index_commit.specs.Commit.{boxesInFront, Work, work, start}
 use Rattle.index_query.specs.Query as query
 use Rattle.index_state.specs.declared.Index.{Index}
 use Rattle.index_state.specs.declared.Refusal.{Refusal}
@@ -220,10 +220,10 @@ abbrev pub accepts : Index → ℕ → ℕ → ℕ → ℕ → Bool
 accepts ix a r o n = soundIndex ix && not (short a r o n)
 
 pub record CommitRooms (ix : Index) (added removed old new added' removed' old' new' : List Float) : Type 0 where
-  pub added-room : added' ≡ cond (accepts ix (length added) (length removed) (length old) (length new)) (inFront (workOf ix .added) added) added
-  pub removed-room : removed' ≡ cond (accepts ix (length added) (length removed) (length old) (length new)) (inFront (workOf ix .removed) removed) removed
-  pub old-room : old' ≡ cond (accepts ix (length added) (length removed) (length old) (length new)) (inFront (workOf ix .old) old) old
-  pub new-room : new' ≡ cond (accepts ix (length added) (length removed) (length old) (length new)) (inFront (workOf ix .new) new) new
+  pub added-room : added' ≡ cond (accepts ix (length added) (length removed) (length old) (length new)) (boxesInFront (workOf ix .added) added) added
+  pub removed-room : removed' ≡ cond (accepts ix (length added) (length removed) (length old) (length new)) (boxesInFront (workOf ix .removed) removed) removed
+  pub old-room : old' ≡ cond (accepts ix (length added) (length removed) (length old) (length new)) (boxesInFront (workOf ix .old) old) old
+  pub new-room : new' ≡ cond (accepts ix (length added) (length removed) (length old) (length new)) (boxesInFront (workOf ix .new) new) new
 
 -- ---- queries: the slots that are visited, rising
 
@@ -241,4 +241,4 @@ queryAnswer ix xs len =
 -- the entries in front, and nothing touched where the call is refused
 unfoldable pub queryRoom : Index → List ℕ → List ℕ → List ℕ
 queryRoom ix xs room =
-    cond (not (soundIndex ix)) room (cond (ltb (length room) 2048) room (query.inFront (query.entries (ix .generation) (ix .payload) xs) room))
+    cond (not (soundIndex ix)) room (cond (ltb (length room) 2048) room (query.entriesInFront (query.entries (ix .generation) (ix .payload) xs) room))

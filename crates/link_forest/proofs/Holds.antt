@@ -7,10 +7,15 @@ use mathlib.Core.Bool.{Bool, true, false}
 use mathlib.Core.List.{List, [], _∷_}
 use Rattle.counting.specs.Times.{times}
 use Rattle.counting.proofs.Counting.{hit, miss}
-use Rattle.link_forest.specs.Forest.{Forest, none, tree, cat, has, Distinct, under, remove, Spot, spot, kids, above, Holds}
+use Rattle.link_forest.specs.Forest.{Forest, none, tree, cat, has, Distinct, under, remove, Spot, spot, kids, above}
 use Rattle.link_forest.proofs.Bools.{never, either-left}
 use Rattle.link_forest.proofs.Clauses.{has-top, has-low, has-late, Stands, here, down, right, stands, under-here, under-down, under-right, under-absent, remove-here, remove-down, remove-right, remove-absent, spot-here, spot-down, spot-right}
 use Rattle.link_forest.proofs.Counting.{once-below, once-beside, not-below, not-beside, beside-not-below, has-cat, has-under}
+
+-- P holds of each slot with what is below it and what is above it, where l stands above the roots
+abbrev pub Holds : (ℕ → Forest → List ℕ → Type 0) → List ℕ → Forest → Type 0
+Holds P l none = Unit {0}
+Holds P l (tree y c s) = P y c l × Holds P (y ∷ l) c × Holds P l s
 
 -- ---- read at one slot
 module _ (P : ℕ → Forest → List ℕ → Type 0) (x : ℕ) where
@@ -111,7 +116,7 @@ module _ (P : ℕ → List ℕ → Type 0) where
       go false n = rw (remove-absent p f n) H
 
 -- ---- what is above a node stays where it is not moved
-each-in : (P : ℕ → List ℕ → Type 0) (l : List ℕ) (f : Forest) → ((y : ℕ) (k : List ℕ) → has y f ≡ true → P y k) → Each P l f
+pub each-in : (P : ℕ → List ℕ → Type 0) (l : List ℕ) (f : Forest) → ((y : ℕ) (k : List ℕ) → has y f ≡ true → P y k) → Each P l f
 each-in P l none g = tt
 each-in P l (tree y c s) g = (
   g y l (has-top y c s),

@@ -11,6 +11,7 @@ use lib.Seq.{take-take, take-all, getD-take, length-take-le}
 use Rattle.counting.specs.Times.{times}
 use Rattle.counting.specs.Lists.{Tells}
 use Rattle.link_forest.specs.Forest.{Forest, none, leaf, pre, post, dep, has, count, Distinct, cat, under, remove, above, part, children, depth}
+use Rattle.link_forest.specs.Sound.{Rep}
 use Rattle.link_forest.specs.Table.{segEnd, indexOf, lastAbove, lessDeep, atDepth, postOf, rebased, depthsFrom, insertAll, cutOut}
 use Rattle.link_forest.specs.Walk.{next, prev}
 use Rattle.link_forest.proofs.Counting.{count-pre}
@@ -20,14 +21,6 @@ use Rattle.link_forest.proofs.Laws.{place, end, slot-has, place-slot, s
 use Rattle.link_forest.proofs.Shape.{shape-exact, same-forest}
 use Rattle.link_forest.proofs.Walk.{next-low, next-root, next-last, prev-low, prev-root}
 use Rattle.link_forest.proofs.Arrays.{take-insertAll, length-insertAll, take-cutOut, length-cutOut}
-
--- the first n of the two arrays are the slots and the depths of f
-pub record Rep (slots depths : List ℕ) (n : ℕ) (f : Forest) : Type 0 where
-  pub counted : n ≡ length (pre f)
-  pub order : take n slots ≡ pre f
-  pub depth : take n depths ≡ dep 1 f
-  pub small : n ≤ 256
-  pub sizes : (length slots ≡ 256) × (length depths ≡ 256)
 
 -- p stands at the place i
 pub record At (slots : List ℕ) (n p i : ℕ) : Type 0 where

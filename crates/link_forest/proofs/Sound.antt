@@ -12,16 +12,12 @@ use Rattle.counting.specs.Lists.{Tells, onceBelow}
 use Rattle.counting.proofs.Counting.{shorter}
 use Rattle.counting.proofs.Kit.{both, through}
 use Rattle.counting.proofs.Words.{once-below-tells}
-use Rattle.link_forest.specs.Forest.{Forest, none, leaf, pre, has, count, Distinct, cat, under, remove, part}
+use Rattle.link_forest.specs.Forest.{Forest, none, leaf, pre, has, count, cat, under, remove, part}
+use Rattle.link_forest.specs.Sound.{Sound}
 use Rattle.link_forest.specs.Table.{depthsFrom, rebased, insertAll, cutOut}
 use Rattle.counting.proofs.Counting.{tally-small}
 use Rattle.link_forest.proofs.Counting.{has-count, lacks-count, count-pre, count-cat, count-under, count-parts, once-cat, once-under, once-remove, once-moved, once-moved-root}
-use Rattle.link_forest.proofs.Rep.{Rep, Segment, rep-times, rep-exact, rep-empty, rep-has, rep-add, rep-add-root, rep-remove, rep-moved, rep-moved-root}
-
-pub record Sound (slots depths : List ℕ) (n : ℕ) (f : Forest) : Type 0 where
-  pub rep : Rep slots depths n f
-  pub once : Distinct f
-  pub low : (x : ℕ) → 256 ≤ x → count x f ≡ 0
+use Rattle.link_forest.proofs.Rep.{Segment, rep-times, rep-exact, rep-empty, rep-has, rep-add, rep-add-root, rep-remove, rep-moved, rep-moved-root}
 
 pub sound-exact : (slots depths : List ℕ) (n : ℕ) → length slots ≡ 256 → length depths ≡ 256
     → Tells (onceBelow 256 slots n && depthsFrom 0 (take n depths)) ((f : Forest) × Sound slots depths n f)

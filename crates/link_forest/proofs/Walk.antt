@@ -10,11 +10,11 @@ use lib.ListN.{length, take, drop, getD, length-append, drop-of-length-le}
 use lib.Seq.{append-snoc, getD-at, getD-take, drop-cons, length-take-le}
 use Rattle.counting.specs.Times.{times}
 use Rattle.counting.proofs.Counting.{hit, times-append}
-use Rattle.link_forest.specs.Forest.{Forest, none, tree, pre, dep, roots, has, Distinct, kids, above, children, part, depth, Holds}
+use Rattle.link_forest.specs.Forest.{Forest, none, tree, pre, dep, roots, has, Distinct, kids, above, children, part, depth}
 use Rattle.link_forest.specs.Walk.{behind, nextUp, next, lastIn, ahead, prevUp, prev}
 use Rattle.link_forest.proofs.Bools.{same-slot}
 use Rattle.link_forest.proofs.Counting.{count-pre}
-use Rattle.link_forest.proofs.Holds.{Found, found, Each, holds-at}
+use Rattle.link_forest.proofs.Holds.{Found, found, Each, holds-at, Holds}
 use Rattle.link_forest.proofs.Lists.{not-there, index-here, index-past, Three, three-before, three-after}
 use Rattle.link_forest.proofs.Whole.{length-dep}
 use Rattle.link_forest.proofs.Laws.{place, end, end-at, rest-at, rest-depths-at, place-there}

@@ -107,8 +107,3 @@ path p f = reverse (p ∷ above p f)
 -- "Depth is 1 at a root"
 abbrev pub depth : ℕ → Forest → ℕ
 depth p f = suc (length (above p f))
-
--- P holds of each slot with what is below it and what is above it, where l stands above the roots
-abbrev pub Holds : (ℕ → Forest → List ℕ → Type 0) → List ℕ → Forest → Type 0
-Holds P l none = Unit {0}
-Holds P l (tree y c s) = P y c l × Holds P (y ∷ l) c × Holds P l s

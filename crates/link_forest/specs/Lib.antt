@@ -1,3 +1,4 @@
 pub mod Forest
 pub mod Table
+pub mod Sound
 pub mod Walk

@@ -33,8 +33,8 @@ lessDeep d (x ∷ xs) [] = []
 lessDeep d (x ∷ xs) (e ∷ es) = elim (ltb e d) [ true ↦ x ∷ lessDeep e xs es | false ↦ lessDeep d xs es ]
 
 -- the slots above a position, the parent first
-abbrev pub above : List ℕ → List ℕ → ℕ → List ℕ
-above order depth i = lessDeep (getD depth i 0) (reverse (take i order)) (reverse (take i depth))
+abbrev pub aboveAt : List ℕ → List ℕ → ℕ → List ℕ
+aboveAt order depth i = lessDeep (getD depth i 0) (reverse (take i order)) (reverse (take i depth))
 
 -- the slots at the depth k
 unfoldable pub atDepth : ℕ → List ℕ → List ℕ → List ℕ

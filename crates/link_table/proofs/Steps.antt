@@ -6,11 +6,11 @@ use Prim.Native.Nat.{ℕ, zero, suc, _+_, _-_, _≤_, _<_}
 use native.Mathlib.Numerals.{add-one}
 use native.Mathlib.Nat.{le-of-suc-le-suc, not-suc-le-zero, suc-sub-suc, sub-zero}
 use native.Mathlib.Omega.{arith}
-use borrow.Author.Tests.{eq-eqb, ne-eqb}
 use lib.Dec.{ltb}
 use lib.ListN.{length, take, drop, getD, set, length-append, length-drop, length-map, take-append-drop}
 use lib.Seq.{paste, paste-zero, paste-suc, take-paste, drop-paste, drop-append-le, drop-append-add, take-suc, getD-drop, getD-at, set-at, set-split, take-nil, take-append-add, take-suc-set, drop-set-lt, drop-cons, drop-drop, take-at, take-append-le, length-take-le, getD-take}
 use Rattle.link_forest.specs.Table.{runLength, segEnd, atDepth, postOf, rebased, insertAll, cutOut}
+use Rattle.link_forest.proofs.Lists.{at-yes, at-no}
 use Rattle.link_table.specs.Links.{between, inFront, shifted}
 
 -- ---- parts of an array
@@ -33,14 +33,6 @@ part-cons i e a h k =
     rw (drop-cons a i 0 lt, s, add-one)
 
 -- ---- children
-level-yes : (k x d : ℕ) (xs ds : List ℕ) → d ≡ k → atDepth k (x ∷ xs) (d ∷ ds) ≡ x ∷ atDepth k xs ds
-unfolding atDepth
-level-yes k x d xs ds e = rw (atDepth, eq-eqb d k e)
-
-level-no : (k x d : ℕ) (xs ds : List ℕ) → (d ≡ k → ⊥) → atDepth k (x ∷ xs) (d ∷ ds) ≡ atDepth k xs ds
-unfolding atDepth
-level-no k x d xs ds e = rw (atDepth, ne-eqb d k e)
-
 module _ (k i e : ℕ) (xs ds : List ℕ) (lx : e ≤ length xs) (ld : e ≤ length ds) (h : i < e) where
   open-level : atDepth k (between i e xs) (between i e ds) ≡ atDepth k (getD xs i 0 ∷ between (i + 1) e xs) (getD ds i 0 ∷ between (i + 1) e ds)
   open-level = rw (part-cons i e xs h lx, part-cons i e ds h ld)
@@ -49,11 +41,11 @@ module _ (k i e : ℕ) (xs ds : List ℕ) (lx : e ≤ length xs) (ld : e ≤ len
   pub level-put : (out g : List ℕ) (m : ℕ) → m < length out → getD ds i 0 ≡ k → take m out ++ atDepth k (between i e xs) (between i e ds) ≡ g
       → take (m + 1) (set out m (getD xs i 0)) ++ atDepth k (between (i + 1) e xs) (between (i + 1) e ds) ≡ g
   level-put out g m l q inv =
-      let w = open-level ∙ level-yes k (getD xs i 0) (getD ds i 0) (between (i + 1) e xs) (between (i + 1) e ds) q in
+      let w = open-level ∙ at-yes k (getD xs i 0) (getD ds i 0) (between (i + 1) e xs) (between (i + 1) e ds) q in
       rw (add-one m, take-suc-set out m (getD xs i 0) l) (append-assoc (take m out) (getD xs i 0 ∷ []) (atDepth k (between (i + 1) e xs) (between (i + 1) e ds)) ∙ rw w at inv)
 
   pub level-pass : (getD ds i 0 ≡ k → ⊥) → atDepth k (between i e xs) (between i e ds) ≡ atDepth k (between (i + 1) e xs) (between (i + 1) e ds)
-  level-pass q = open-level ∙ level-no k (getD xs i 0) (getD ds i 0) (between (i + 1) e xs) (between (i + 1) e ds) q
+  level-pass q = open-level ∙ at-no k (getD xs i 0) (getD ds i 0) (between (i + 1) e xs) (between (i + 1) e ds) q
 
 pub level-rest : (m x : ℕ) (out out₀ : List ℕ) → drop m out ≡ drop m out₀ → drop (m + 1) (set out m x) ≡ drop (m + 1) out₀
 level-rest m x out out₀ inv =

@@ -15,7 +15,7 @@ use Rattle.geometry_clips.specs.declared.clip.Clip.{Clip}
 use Rattle.geometry_clips.specs.declared.clip.Clip.the-variants as is
 use Rattle.tree_types.specs.declared.LocalNode.{LocalNode}
 use Rattle.tree_types.specs.declared.OptionNodeId.the-variants as node
-use Rattle.tree_types.specs.Local.{flags, noInset}
+use Rattle.tree_types.specs.Local.{flags, noInset, defaultLocal, withBounds, withSlop, withTransform, withClip, withLevel, withFlags}
 use Rattle.link_forest.specs.Forest.{children}
 use Rattle.plan.specs.Plan.{Plan, number, empty, generationFrom}
 use Rattle.plan.specs.Visits.{visits}
@@ -30,7 +30,7 @@ use Rattle.plan.proofs.Rows.{num, point, id, local, ten, turn, shifted,
 
 -- a whole local record, and shorter ways to write values
 unfoldable pub rec : Rect → Insets → Affine → Clip → ℤ → ℕ → LocalNode
-rec r s t c z f = record { «local_bounds» = r; «hit_slop» = s; «local_transform» = t; «local_clip» = c; «z_index» = z; flags = flags f }
+rec r s t c z f = withBounds r (withSlop s (withTransform t (withClip c (withLevel z (withFlags (flags f) defaultLocal)))))
 
 unfoldable pub whole : ℕ → Rect
 whole n = rect fl.zero fl.zero (num n) (num n)

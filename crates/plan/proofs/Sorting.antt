@@ -11,7 +11,7 @@ use borrow.Author.Tests.{eqb-true, eqb-false, eq-eqb, ltb-true, lt-ltb}
 use lib.Dec.{eqb, ltb}
 use Rattle.counting.specs.Times.{tally, times}
 use Rattle.counting.proofs.Counting.{hit, miss}
-use Rattle.plan.specs.Lists.{insertSorted, sorted}
+use Rattle.plan.specs.Lists.{insertSorted, sorted, First, Rising}
 
 never : true ≡ false → ⊥
 never p = let z : _≡_ {A = ℕ} 0 1 = cc in absurd (omega arith)
@@ -23,16 +23,8 @@ pub record Strict (before : ℕ → ℕ → Bool) : Type 0 where
   pub total : (x y : ℕ) → (x ≡ y → ⊥) → before x y ≡ false → before y x ≡ true
 
 module _ (before : ℕ → ℕ → Bool) where
-  -- x stands before each of these
-  abbrev pub First : ℕ → List ℕ → Type 0
-  First x ys = (y : ℕ) → 1 ≤ times y ys → before x y ≡ true
-
-  abbrev pub Rising : List ℕ → Type 0
-  Rising [] = Unit {0}
-  Rising (x ∷ xs) = First x xs × Rising xs
-
   module _ (S : Strict before) where
-    pub settled : (xs ys : List ℕ) → Rising xs → Rising ys → ((x : ℕ) → times x xs ≡ times x ys) → xs ≡ ys
+    pub settled : (xs ys : List ℕ) → Rising before xs → Rising before ys → ((x : ℕ) → times x xs ≡ times x ys) → xs ≡ ys
     unfolding times
     settled [] [] r s e = refl
     settled [] (y ∷ ys) r s e = absurd (omega (arith, e y, hit y))
@@ -65,7 +57,7 @@ module _ (before : ℕ → ℕ → Bool) where
     times-sorted z [] = refl
     times-sorted z (x ∷ xs) = rw (times-inserted z x (sorted before xs), times-sorted z xs)
 
-    rising-inserted : (x : ℕ) (ys : List ℕ) → times x ys ≡ 0 → Rising ys → Rising (insertSorted before x ys)
+    rising-inserted : (x : ℕ) (ys : List ℕ) → times x ys ≡ 0 → Rising before ys → Rising before (insertSorted before x ys)
     unfolding times insertSorted
     rising-inserted x [] n r = ((λ y h. absurd (omega arith)), tt)
     rising-inserted x (y ∷ ys) n r = go (before x y) refl (rising-inserted x ys)
@@ -73,10 +65,10 @@ module _ (before : ℕ → ℕ → Bool) where
         other : x ≡ y → ⊥
         other q = let h : tally (eqb x y) ≡ 1 = rw q (hit y) in absurd (omega (arith, n))
 
-        go : (b : Bool) → before x y ≡ b → (times x ys ≡ 0 → Rising ys → Rising (insertSorted before x ys)) → Rising (insertSorted before x (y ∷ ys))
+        go : (b : Bool) → before x y ≡ b → (times x ys ≡ 0 → Rising before ys → Rising before (insertSorted before x ys)) → Rising before (insertSorted before x (y ∷ ys))
         go true d ih = rw d (first, r)
           where
-            first : First x (y ∷ ys)
+            first : First before x (y ∷ ys)
             first z h = at (eqb z y) refl
               where
                 at : (c : Bool) → eqb z y ≡ c → before x z ≡ true
@@ -84,14 +76,14 @@ module _ (before : ℕ → ℕ → Bool) where
                 at false e = S .trans x y z d (r .0 z (omega (arith, h, miss z y (eqb-false z y e))))
         go false d ih = rw d (first, ih (omega (arith, n)) (r .1))
           where
-            first : First y (insertSorted before x ys)
+            first : First before y (insertSorted before x ys)
             first z h = at (eqb z x) refl
               where
                 at : (c : Bool) → eqb z x ≡ c → before y z ≡ true
                 at true e = rw (eqb-true z x e) (S .total x y other d)
                 at false e = r .0 z (omega (arith, h, times-inserted z x ys, miss z x (eqb-false z x e)))
 
-    pub rising-sorted : (xs : List ℕ) → ((x : ℕ) → times x xs ≤ 1) → Rising (sorted before xs)
+    pub rising-sorted : (xs : List ℕ) → ((x : ℕ) → times x xs ≤ 1) → Rising before (sorted before xs)
     unfolding times sorted
     rising-sorted [] o = tt
     rising-sorted (x ∷ xs) o =

@@ -1,8 +1,10 @@
 -- Words for lists and tables that the plan's rules are said in.
-use Prim.Native.Nat.{ℕ, zero, suc}
-use mathlib.Core.Bool.{Bool, false, cond, _||_}
+use Prim.Native.Nat.{ℕ, zero, suc, _≤_}
+use mathlib.Core.Path.{_≡_}
+use mathlib.Core.Bool.{Bool, true, false, cond, _||_}
 use mathlib.Core.List.{List, [], _∷_, _++_}
 use lib.Dec.{eqb}
+use Rattle.counting.specs.Times.{times}
 
 -- a table with a new value at x
 abbrev pub put : {A : Type 0} → (ℕ → A) → ℕ → A → ℕ → A
@@ -36,3 +38,12 @@ insertSorted before x (y ∷ ys) = cond (before x y) (x ∷ y ∷ ys) (y ∷ ins
 unfoldable pub sorted : (ℕ → ℕ → Bool) → List ℕ → List ℕ
 sorted before [] = []
 sorted before (x ∷ xs) = insertSorted before x (sorted before xs)
+
+-- x stands before each of these
+abbrev pub First : (ℕ → ℕ → Bool) → ℕ → List ℕ → Type 0
+First before x ys = (y : ℕ) → 1 ≤ times y ys → before x y ≡ true
+
+-- each stands before all that come behind it
+abbrev pub Rising : (ℕ → ℕ → Bool) → List ℕ → Type 0
+Rising before [] = Unit {0}
+Rising before (x ∷ xs) = First before x xs × Rising before xs

@@ -23,7 +23,7 @@ use Rattle.sheet_calls.proofs.Accepted.{good-sheet}
 use Rattle.sheet_calls.proofs.Bounds.{tap-short, refusal-small}
 use Rattle.sheet_laws.specs.Built.{treeOf}
 use Rattle.sheet_laws.proofs.Tree.{tap-accepted, tap-found}
-use Rattle.sheet_laws.proofs.Tables.{rows-many, rows-at}
+use Rattle.sheet_format.proofs.Tables.{rows-length, row-at}
 use Rattle.sheet_answers.specs.text.Text.{Stored}
 use Rattle.sheet_answers.proofs.text.Digits.{short}
 use Rattle.sheet_answers.specs.tap_lines.Lines.{found, tapText, AllReady}
@@ -48,8 +48,8 @@ text-same s k before (zs ∷ rows) P =
 pub taps-ready : (s : Sheet) → Good s → (taps : List ℤ) (n : ℕ) → s .taps ≡ rowsOf tapWidth n taps → AllReady (treeOf s) taps n
 taps-ready s g taps n e i h =
     let p = tapOf (rowAt tapWidth i taps) in
-    let f = passes-at tapRule [] (s .taps) (g .taps) i (omega (arith, ap length e, rows-many tapWidth n taps)) in
-    let row : getD (s .taps) i [] ≡ rowAt tapWidth i taps = ap (λ (l : List (List ℤ)). getD l i []) e ∙ rows-at tapWidth n taps i h in
+    let f = passes-at tapRule [] (s .taps) (g .taps) i (omega (arith, ap length e, rows-length tapWidth n taps)) in
+    let row : getD (s .taps) i [] ≡ rowAt tapWidth i taps = ap (λ (l : List (List ℤ)). getD l i []) e ∙ row-at tapWidth n i taps h in
     let r : tapInRange p ≡ true = subst (λ (z : List ℤ). tapInRange (tapOf z) ≡ true) row (f .ranged) in
     let b = tap-short s g p in
     let q = found-same s (rowAt tapWidth i taps) r in
@@ -65,11 +65,11 @@ pub sheet-text : (p : Parsed) → Good (sheetOf p) → lineOf (p .tapped ∷ [])
 unfolding sheetText
 sheet-text p g =
     let rows = rowsOf tapWidth (p .tapped) (p .taps) in
-    ap (λ (n : ℕ). lineOf (n ∷ []) ++ tapText (treeOf (sheetOf p)) 1 rows) (sym (rows-many tapWidth (p .tapped) (p .taps)))
+    ap (λ (n : ℕ). lineOf (n ∷ []) ++ tapText (treeOf (sheetOf p)) 1 rows) (sym (rows-length tapWidth (p .tapped) (p .taps)))
     ∙ ap (λ (l : List ℕ). lineOf (length rows ∷ []) ++ l) (text-same (sheetOf p) 1 [] rows (g .taps))
 
 pub few-taps : (p : Parsed) → Good (sheetOf p) → p .tapped ≤ mostTaps
-few-taps p g = omega (arith, g .few-taps, rows-many tapWidth (p .tapped) (p .taps))
+few-taps p g = omega (arith, g .few-taps, rows-length tapWidth (p .tapped) (p .taps))
 
 pub short-count : (n : ℕ) → n < 10000 → length (lineOf (n ∷ [])) ≤ 5
 unfolding lineOf

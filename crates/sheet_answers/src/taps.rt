@@ -27,7 +27,7 @@ pub(crate) fn answer_at<'a>(
     requires { ⌜ (n ≤ 256) × (length (now order) ≡ 256) × (length (now depth) ≡ 256) × ((best ≡ 256 → ⊥) → Shown (now order) n best) ⌝ }
     ensures { λ r. ⌜ r ≡ spec.answerAt (now (order .entry)) (now (depth .entry)) n best ⌝ }
 {
-    if best == 256 { // nobody
+    if best == 256 {
         return Answered { place: 0, depth: 0 };
     }
     let at = link_table::position(order, n, best as u32);

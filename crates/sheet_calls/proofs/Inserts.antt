@@ -24,11 +24,11 @@ use Rattle.plan.specs.Plan.{Plan, empty, nodes, full, parentLive, newId, newSlo
 use Rattle.plan.specs.Lists.{any}
 use Rattle.plan.specs.Visits.{committed}
 use Rattle.plan.specs.Calls as call
-use Rattle.plan.specs.Calls.{Call, Outcome, lowest, refusal, accepted, step, outcome}
+use Rattle.plan.specs.Calls.{Call, lowest, refusal, accepted, step, outcome}
 use Rattle.plan.specs.Demand.{run, outcomes}
 use Rattle.sheet_format.specs.declared.PlaceLine.{PlaceLine}
 use Rattle.sheet_format.specs.Sheet.{Sheet, Rule, placeOf, placeRule, parentEarlier, clipRule}
-use Rattle.sheet_calls.specs.Calls.{localOf, clipFor, parentAt, insertOf, insertsFrom, room, callsOf}
+use Rattle.sheet_calls.specs.Calls.{localOf, clipFor, parentAt, insertOf, insertsFrom, room, callsOf, handedOut}
 use Rattle.sheet_calls.specs.Answers.{planOf}
 use Rattle.sheet_calls.specs.Good.{Fair, Passes, Good}
 use Rattle.sheet_calls.proofs.Finite.{place-ranges, clip-for-finite, local-finite, local-known}
@@ -191,11 +191,6 @@ rows-grown clips C k p G before (row ∷ rows) b few P (suc j) le =
     let c = insertOf clips (suc k) (placeOf row) in
     subst (λ (n : ℕ). Grown n (run step (step p c) (insertsFrom clips (suc (suc k)) (take j rows)))) (omega arith)
     (rows-grown clips C (suc k) (step p c) (row-grown clips C k p G before b (omega arith) row (P .0)) (before ++ row ∷ []) rows (simp length-append (omega arith)) (omega arith) (P .1) j (omega arith))
-
--- what the inserts of n places answer, from the slot k on
-unfoldable pub handedOut : ℕ → ℕ → List Outcome
-handedOut k zero = []
-handedOut k (suc n) = record { refused = 0; told = call.id (record { 0 = k; 1 = 1 }) } ∷ handedOut (suc k) n
 
 -- a commit with room is never refused
 pub room-long : length room ≡ 2048

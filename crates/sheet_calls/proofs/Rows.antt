@@ -6,18 +6,15 @@ use lib.IntN.{ℤ, pos, negℤ}
 use lib.Ieee.{ofInt}
 use Rattle.plan.proofs.Rows as plan
 use Rattle.geometry_clips.specs.declared.clip.Clip.the-variants as clip
-use Rattle.sheet_lines.specs.Lines as lines
 use Rattle.sheet_format.specs.declared.ClipLine.{ClipLine}
-use Rattle.sheet_format.specs.Sheet as sheet
+use Rattle.sheet_format.proofs.Rows as format
 use Rattle.sheet_calls.specs.Calls as calls
 use Rattle.sheet_calls.specs.Answers.{bytes, output, planOf, tapOn, digitsUpTo, decimal, lineOf, tapLines, sheetText}
 
 -- what the rows compute through
 unfoldable pub computed : Unit {0}
-unfolding plan.computed output planOf tapOn digitsUpTo decimal lineOf tapLines sheetText sheet.readSheet sheet.counted sheet.section sheet.judge
-    sheet.placeOf sheet.clipOf sheet.tapOf sheet.placeInRange sheet.clipInRange sheet.tapInRange sheet.parentEarlier sheet.clippedBefore
-    sheet.clipPlaceOpen lines.cut lines.fields lines.numbersOf lines.wordsOf lines.decimal lines.positive lines.digitsAfter calls.turns
-    calls.orientation calls.clipOn calls.clipFor calls.localOf calls.insertOf calls.insertsFrom calls.room calls.callsOf ofInt
+unfolding plan.computed format.computed output planOf tapOn digitsUpTo decimal lineOf tapLines sheetText calls.turns calls.orientation calls.clipOn
+    calls.clipFor calls.localOf calls.insertOf calls.insertsFrom calls.room calls.callsOf ofInt
 computed = tt
 
 example : output (bytes "2\n0 0 0 0 0 0 100 100 0 0 3\n1 1 100 0 0 0 40 20 0 0 3\n0\n4\n90 10 3\n100 10 3\n80 10 3\n200 200 3\n") ≡ bytes "4\n1 2 2\n2 2 2\n3 1 1\n4 0 0\n"

@@ -16,9 +16,9 @@ use Rattle.geometry_clips.specs.declared.clip.Clip.the-variants as clip
 use Rattle.tree_types.specs.declared.LocalNode.{LocalNode}
 use Rattle.tree_types.specs.declared.OptionNodeId.{OptionNodeId}
 use Rattle.tree_types.specs.declared.OptionNodeId.the-variants as node
-use Rattle.tree_types.specs.Local.{flags}
+use Rattle.tree_types.specs.Local.{flags, defaultLocal, withBounds, withSlop, withTransform, withClip, withLevel, withFlags}
 use Rattle.plan.specs.Calls as call
-use Rattle.plan.specs.Calls.{Call}
+use Rattle.plan.specs.Calls.{Call, Outcome}
 use Rattle.sheet_format.specs.declared.PlaceLine.{PlaceLine}
 use Rattle.sheet_format.specs.declared.ClipLine.{ClipLine}
 use Rattle.sheet_format.specs.Sheet.{Sheet, placeOf, clipOf, equal}
@@ -75,16 +75,13 @@ clipFor (zs ∷ clips) k = cond (equal (clipOf zs .place) (pos k)) (clipOn (clip
 abbrev pub allSides : Float → Insets
 allSides s = record { x0 = s; y0 = s; x1 = s; y1 = s }
 
+-- the record of a place, with its clip; a field that no line has is the default's
 unfoldable pub localOf : PlaceLine → Clip → LocalNode
 localOf p c =
-    record {
-      «local_bounds» = rect (real (p .x0)) (real (p .y0)) (real (p .x1)) (real (p .y1));
-      «hit_slop» = allSides (real (p .slop));
-      «local_transform» = shifted (orientation (natAbs (p .orientation))) (p .x) (p .y);
-      «local_clip» = c;
-      «z_index» = p .level;
-      flags = flags (natAbs (p .flags));
-    }
+    withBounds (rect (real (p .x0)) (real (p .y0)) (real (p .x1)) (real (p .y1)))
+    (withSlop (allSides (real (p .slop)))
+    (withTransform (shifted (orientation (natAbs (p .orientation))) (p .x) (p .y))
+    (withClip c (withLevel (p .level) (withFlags (flags (natAbs (p .flags))) defaultLocal)))))
 
 -- ---- the calls
 
@@ -108,3 +105,8 @@ room = replicate 2048 fl.zero
 
 unfoldable pub callsOf : Sheet → List Call
 callsOf s = insertsFrom (s .clips) 1 (s .places) ++ call.commit room ∷ []
+
+-- what the inserts of n places answer, from the slot k on
+unfoldable pub handedOut : ℕ → ℕ → List Outcome
+handedOut k zero = []
+handedOut k (suc n) = record { refused = 0; told = call.id (record { 0 = k; 1 = 1 }) } ∷ handedOut (suc k) n

@@ -15,6 +15,12 @@ abbrev pub bytes : String → List ℕ
 bytes end = []
 bytes (c then s) = code c ∷ bytes s
 
+-- what the rows compute through
+unfoldable pub computed : Unit {0}
+unfolding readSheet counted section judge placeOf placeInRange parentEarlier clipOf clipInRange clippedBefore clipPlaceOpen tapOf tapInRange cut
+    fields numbersOf wordsOf decimal positive digitsAfter
+computed = tt
+
 -- ---- document 01's example
 
 abbrev n : ℕ → ℤ
@@ -26,7 +32,7 @@ example : readSheet (bytes "2\n0 0 0 0 0 0 100 100 0 0 3\n1 1 100 0 0 0 40 20 0 
       clips = [];
       taps = (n 90 ∷ n 10 ∷ n 3 ∷ []) ∷ (n 100 ∷ n 10 ∷ n 3 ∷ []) ∷ (n 80 ∷ n 10 ∷ n 3 ∷ []) ∷ (n 200 ∷ n 200 ∷ n 3 ∷ []) ∷ [];
     }
-unfolding readSheet counted section judge placeOf placeInRange parentEarlier tapOf tapInRange cut fields numbersOf wordsOf decimal positive digitsAfter
+unfolding computed
 example = refl
 
 -- ---- accepted, or refused with a number and a line
@@ -97,5 +103,5 @@ rows =
     ∷ []
 
 worked : all rows ≡ true
-unfolding all holds rows is-sheet is-refused readSheet counted section judge placeOf placeInRange parentEarlier clipOf clipInRange clippedBefore clipPlaceOpen tapOf tapInRange cut fields numbersOf wordsOf decimal positive digitsAfter
+unfolding computed all holds rows is-sheet is-refused
 worked = refl

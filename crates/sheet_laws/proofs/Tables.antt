@@ -1,35 +1,21 @@
--- Rows in tables: how many, which one stands where, and the rows from one on. Assumes nothing.
-use Prim.Native.Nat.{ℕ, zero, suc, _+_, _*_, _≤_, _<_}
-use mathlib.Core.Path.{_≡_, refl, sym, ap, _∙_}
+-- The clip of a place, from the rows of a table; a sheet without its taps. Assumes nothing.
+use Prim.Native.Nat.{ℕ, suc, _+_, _≤_, _<_}
+use mathlib.Core.Path.{_≡_, refl, ap, _∙_}
 use mathlib.Core.Bool.{true, false}
 use mathlib.Core.List.{List, [], _∷_}
-use native.Mathlib.Nat.{suc-mul, zero-mul}
 use native.Mathlib.Omega.{arith}
 use native.Mathlib.Numerals.{add-one}
 use lib.IntN.{ℤ, pos}
-use lib.ListN.{length, getD, take, drop, drop-of-length-le}
-use lib.Seq.{drop-drop, drop-cons}
+use lib.ListN.{length, drop, drop-of-length-le}
+use lib.Seq.{drop-cons}
 use Rattle.geometry_clips.specs.declared.clip.Clip.{Clip}
 use Rattle.geometry_clips.specs.declared.clip.Clip.the-variants as clip
 use Rattle.sheet_format.specs.Sheet.{clipWidth, Sheet, clipOf, equal}
 use Rattle.sheet_format.specs.Told.{rowsOf, rowAt}
+use Rattle.sheet_format.proofs.Tables.{rows-length, row-at}
 use Rattle.sheet_calls.specs.Calls.{clipOn, clipFor, callsOf}
 use Rattle.sheet_calls.specs.Good.{Good, Passes}
 use Rattle.sheet_laws.specs.Built.{treeOf, untapped}
-
-pub rows-many : (w n : ℕ) (t : List ℤ) → length (rowsOf w n t) ≡ n
-unfolding rowsOf
-rows-many w zero t = refl
-rows-many w (suc n) t = ap suc (rows-many w n (drop w t))
-
-pub rows-at : (w n : ℕ) (t : List ℤ) (i : ℕ) → i < n → getD (rowsOf w n t) i [] ≡ rowAt w i t
-unfolding rowsOf
-rows-at w zero t i h = absurd (omega arith)
-rows-at w (suc n) t zero h = ap (λ (k : ℕ). take w (drop k t)) (sym (zero-mul w))
-rows-at w (suc n) t (suc i) h =
-    let m : suc i * w ≡ i * w + w = suc-mul i w in
-    let e : w + i * w ≡ suc i * w = omega arith in
-    rows-at w n (drop w t) i (omega arith) ∙ ap (take w) (drop-drop (i * w) w t ∙ ap (λ (k : ℕ). drop k t) e)
 
 -- ---- the clip of a place, row by row
 
@@ -40,12 +26,12 @@ module _ (n : ℕ) (t : List ℤ) (k : ℕ) where
 
   pub none-left : (i : ℕ) → n ≤ i → clip.None ≡ clipFrom i
   unfolding clipFor
-  none-left i h = let l : length (rowsOf clipWidth n t) ≤ i = omega (arith, rows-many clipWidth n t) in rw (drop-of-length-le (rowsOf clipWidth n t) l)
+  none-left i h = let l : length (rowsOf clipWidth n t) ≤ i = omega (arith, rows-length clipWidth n t) in rw (drop-of-length-le (rowsOf clipWidth n t) l)
 
   next-row : (i : ℕ) → i < n → drop i (rowsOf clipWidth n t) ≡ rowAt clipWidth i t ∷ drop (suc i) (rowsOf clipWidth n t)
   next-row i h =
-      let l : i < length (rowsOf clipWidth n t) = omega (arith, rows-many clipWidth n t) in
-      drop-cons (rowsOf clipWidth n t) i [] l ∙ ap (λ (r : List ℤ). r ∷ drop (suc i) (rowsOf clipWidth n t)) (rows-at clipWidth n t i h)
+      let l : i < length (rowsOf clipWidth n t) = omega (arith, rows-length clipWidth n t) in
+      drop-cons (rowsOf clipWidth n t) i [] l ∙ ap (λ (r : List ℤ). r ∷ drop (suc i) (rowsOf clipWidth n t)) (row-at clipWidth n i t h)
 
   pub this-one : (i : ℕ) → i < n → equal (clipOf (rowAt clipWidth i t) .place) (pos k) ≡ true → clipOn (clipOf (rowAt clipWidth i t)) ≡ clipFrom i
   unfolding clipFor

@@ -26,10 +26,10 @@ use Rattle.tree_run.proofs.Verdicts.{verdict, accepted, answerIf, step-is, answ
 use Rattle.demand3.proofs.Theorem.{meets-fresh, run-meets, refused-same, zero-accepted, demand-3}
 use Rattle.demand3.proofs.Soundness.{sound-from-fresh}
 use Rattle.sheet_format.specs.Sheet.{Sheet, placeOf}
-use Rattle.sheet_calls.specs.Calls.{insertOf, insertsFrom, room, callsOf}
+use Rattle.sheet_calls.specs.Calls.{insertOf, insertsFrom, room, callsOf, handedOut}
 use Rattle.sheet_calls.specs.Answers.{planOf}
 use Rattle.sheet_calls.specs.Good.{Good}
-use Rattle.sheet_calls.proofs.Inserts.{handedOut, next-accepted, next-calls, all-calls, run-append, sheet-outcomes, request-accepted}
+use Rattle.sheet_calls.proofs.Inserts.{next-accepted, next-calls, all-calls, run-append, sheet-outcomes, request-accepted}
 use Rattle.sheet_calls.proofs.Inserts as plan
 use Rattle.sheet_laws.specs.Built.{treeUpTo, treeOf}
 

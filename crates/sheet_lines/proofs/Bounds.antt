@@ -10,7 +10,7 @@ use lib.IntN.{ℤ, pos, negsuc}
 use lib.Signed.{leZ, mag}
 use Rattle.sheet_lines.specs.Saturated.{saturated}
 
-clash : {A : Type 0} → false ≡ true → A
+pub clash : {A : Type 0} → false ≡ true → A
 clash h = let z : _≡_ {A = ℕ} 0 1 = cc in absurd (omega arith)
 
 above : (t : Bool) (n b c : ℕ) → b < c → leb n b ≡ t → leb (min n c) b ≡ t

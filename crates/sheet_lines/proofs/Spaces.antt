@@ -11,7 +11,7 @@ use lib.IntN.{ℤ}
 use lib.ListN.{length, take, drop, set, length-drop, length-append, length-map, length-set}
 use lib.Seq.{take-length, drop-drop, take-suc-set, length-take-le}
 use Rattle.bytes.specs.Bytes.{slice, indexOf, indexAfter}
-use Rattle.sheet_lines.specs.Lines.{Decimal, lineWidth, Numbers, malformed, whole, numbers, decimal, onFirst, wordsOf, inFront, numbersOf, ofWidth, fields}
+use Rattle.sheet_lines.specs.Lines.{Decimal, lineWidth, Numbers, malformed, whole, numbers, decimal, onFirst, wordsOf, withFirst, numbersOf, ofWidth, fields}
 use Rattle.sheet_lines.specs.Saturated.{saturated, saturatedDecimal, saturatedNumbers}
 
 -- the words from a position on; none behind the end
@@ -46,11 +46,11 @@ onto zs (numbers ys) = numbers (zs ++ ys)
 abbrev pub rest : ℕ → List ℕ → Numbers
 rest at line = saturatedNumbers (numbersOf (wordsFrom at line))
 
-sat-inFront : (d : Decimal) (ns : Numbers) → saturatedNumbers (inFront d ns) ≡ inFront (saturatedDecimal d) (saturatedNumbers ns)
+sat-first : (d : Decimal) (ns : Numbers) → saturatedNumbers (withFirst d ns) ≡ withFirst (saturatedDecimal d) (saturatedNumbers ns)
 unfolding saturatedNumbers saturatedDecimal
-sat-inFront malformed ns = refl
-sat-inFront (whole z) malformed = refl
-sat-inFront (whole z) (numbers zs) = refl
+sat-first malformed ns = refl
+sat-first (whole z) malformed = refl
+sat-first (whole z) (numbers zs) = refl
 
 sat-cond : (b : Bool) (ns : Numbers) → saturatedNumbers (cond b ns malformed) ≡ cond b (saturatedNumbers ns) malformed
 unfolding saturatedNumbers
@@ -71,11 +71,11 @@ onto-none : (ns : Numbers) → ns ≡ onto [] ns
 onto-none malformed = refl
 onto-none (numbers zs) = refl
 
-onto-next : (zs : List ℤ) (z : ℤ) (ns : Numbers) → onto zs (inFront (whole z) ns) ≡ onto (zs ++ z ∷ []) ns
+onto-next : (zs : List ℤ) (z : ℤ) (ns : Numbers) → onto zs (withFirst (whole z) ns) ≡ onto (zs ++ z ∷ []) ns
 onto-next zs z malformed = refl
 onto-next zs z (numbers ys) = ap numbers (sym (append-assoc zs (z ∷ []) ys))
 
-too-many : (zs : List ℤ) (d : Decimal) (ns : Numbers) → ofWidth (length zs) (onto zs (inFront d ns)) ≡ malformed
+too-many : (zs : List ℤ) (d : Decimal) (ns : Numbers) → ofWidth (length zs) (onto zs (withFirst d ns)) ≡ malformed
 too-many zs malformed ns = refl
 too-many zs (whole z) malformed = refl
 too-many zs (whole z) (numbers ys) =
@@ -130,14 +130,14 @@ module _ (line : List ℕ) (width : ℕ) (row : List ℤ) (at j : ℕ) (narrow :
           let b : e + 1 ≡ at + suc i = omega arith in
           rw (a, b, ← shifted (suc i) at line h, le-leb at (length line) h) (first-word (drop at line))
 
-      rest-at : rest at line ≡ inFront (saturatedDecimal (decimal (take (e - at) (drop at line)))) (rest (e + 1) line)
+      rest-at : rest at line ≡ withFirst (saturatedDecimal (decimal (take (e - at) (drop at line)))) (rest (e + 1) line)
       unfolding numbersOf
-      rest-at = ap (λ ws. saturatedNumbers (numbersOf ws)) words-at ∙ sat-inFront _ _
+      rest-at = ap (λ ws. saturatedNumbers (numbersOf ws)) words-at ∙ sat-first _ _
 
       -- a word that is no number
       pub bad-word : malformed ≡ saturatedDecimal (decimal (take (e - at) (drop at line))) → malformed ≡ saturatedNumbers (fields width line)
       bad-word m =
-          sym (sym (by-width width line) ∙ ap (ofWidth width) (I .read ∙ ap (onto (take j row)) (rest-at ∙ ap (λ d. inFront d (rest (e + 1) line)) (sym m))))
+          sym (sym (by-width width line) ∙ ap (ofWidth width) (I .read ∙ ap (onto (take j row)) (rest-at ∙ ap (λ d. withFirst d (rest (e + 1) line)) (sym m))))
 
       -- a number more
       pub next : (z : ℤ) → j < width → e ≤ length line → whole z ≡ saturatedDecimal (decimal (take (e - at) (drop at line))) → Inv line width (set row j z) (e + 1) (j + 1)
@@ -149,7 +149,7 @@ module _ (line : List ℕ) (width : ℕ) (row : List ℤ) (at j : ℕ) (narrow :
             long = length-set row j z ∙ I .long;
             read =
                 I .read
-                ∙ ap (onto (take j row)) (rest-at ∙ ap (λ d. inFront d (rest (e + 1) line)) (sym m))
+                ∙ ap (onto (take j row)) (rest-at ∙ ap (λ d. withFirst d (rest (e + 1) line)) (sym m))
                 ∙ onto-next (take j row) z (rest (e + 1) line)
                 ∙ ap (λ t. onto t (rest (e + 1) line)) (sym (rw add-one (take-suc-set row j z r)));
           }
@@ -164,7 +164,7 @@ module _ (line : List ℕ) (width : ℕ) (row : List ℤ) (at j : ℕ) (narrow :
         let t : length (take j row) ≡ width = taken ∙ e in
         sym (sym (by-width width line)
         ∙ ap (ofWidth width) (I .read ∙ ap (onto (take j row)) (rest-at i refl))
-        ∙ ap (λ n. ofWidth n (onto (take j row) (inFront d ns))) (sym t)
+        ∙ ap (λ n. ofWidth n (onto (take j row) (withFirst d ns))) (sym t)
         ∙ too-many (take j row) d ns)
 
 -- what a word that is read or not stands for

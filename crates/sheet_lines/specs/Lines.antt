@@ -60,14 +60,15 @@ pub data Numbers : Type 0 where
   malformed : Numbers
   numbers : List ℤ → Numbers
 
-abbrev pub inFront : Decimal → Numbers → Numbers
-inFront malformed ns = malformed
-inFront (whole z) malformed = malformed
-inFront (whole z) (numbers zs) = numbers (z ∷ zs)
+-- a word's number in front of the others; malformed where either is
+abbrev pub withFirst : Decimal → Numbers → Numbers
+withFirst malformed ns = malformed
+withFirst (whole z) malformed = malformed
+withFirst (whole z) (numbers zs) = numbers (z ∷ zs)
 
 unfoldable pub numbersOf : List (List ℕ) → Numbers
 numbersOf [] = numbers []
-numbersOf (w ∷ ws) = inFront (decimal w) (numbersOf ws)
+numbersOf (w ∷ ws) = withFirst (decimal w) (numbersOf ws)
 
 abbrev pub ofWidth : ℕ → Numbers → Numbers
 ofWidth n malformed = malformed

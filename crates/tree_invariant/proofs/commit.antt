@@ -2,6 +2,5 @@ pub mod Filed
 pub mod Turn
 pub mod Fold
 pub mod Sizes
-pub mod Finish
 pub mod Keep
 pub mod After

@@ -14,14 +14,15 @@ use lib.Seq.{length-take-le}
 use Rattle.link_forest.proofs.Counting.{count-pre}
 use Rattle.link_forest.proofs.Laws.{place-there, place-missing}
 use Rattle.link_forest.proofs.Rep.{At, Segment, rep-depth, rep-slot, rep-ancestors, rep-segment, rep-post, rep-children, rep-below-test, rep-slot-has, rep-slot-at}
-use Rattle.link_forest.proofs.Sound.{Sound, sound-low}
+use Rattle.link_forest.proofs.Sound.{sound-low}
+use Rattle.link_forest.specs.Sound.{Sound}
 use Rattle.link_table.specs.Links as links
 use Rattle.tree_state.specs.declared.Tree.{Tree}
 use Rattle.tree_state.specs.Tree.{liveSlots, positionOf, isLive}
 use Rattle.tree_state.specs.Sound.{SoundTree}
 use Rattle.tree_steps.specs.Commit.{ancestors}
 use Rattle.tree_steps.specs.Structure.{subtreeAt}
-use Rattle.tree_laws.proofs.Whole.{Whole}
+use Rattle.tree_laws.specs.Whole.{Whole}
 
 -- the tree's links are f's table
 abbrev pub Linked : Tree → Forest → Type 0

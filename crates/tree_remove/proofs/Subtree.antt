@@ -24,7 +24,7 @@ use Rattle.tree_state.specs.Sound.{SoundTree}
 use Rattle.tree_steps.specs.Structure.{subtreeAt, removeTree}
 use Rattle.tree_verdicts.proofs.nodes.Lengths.{Told}
 use Rattle.tree_verdicts.proofs.nodes.Nodes.{Node}
-use Rattle.tree_laws.proofs.Whole.{Whole}
+use Rattle.tree_laws.specs.Whole.{Whole}
 use Rattle.tree_laws.proofs.Ground.{Linked, linked, live-has, low, subtree-post}
 use Rattle.tree_verdicts.proofs.marks.Handed.{whole}
 use Rattle.tree_invariant.proofs.remove.Fold.{pending-count, freed, goneKeys}

@@ -19,7 +19,7 @@ use Rattle.tree_state.specs.Lent as lent
 use Rattle.tree_state.specs.Tree.{idAt, keyAt, clipOf, committedAt, storedBounds, storedHitBounds}
 use Rattle.tree_steps.specs.Commit.{newPlace, newBounds, newHitBounds, damageOf, reworked, rework, rectsInFront}
 use Rattle.tree_rework.specs.preconditions.Fits.{Fits, from, slotAt}
-use Rattle.tree_rework.specs.worlds.Places.{above, handed, place}
+use Rattle.tree_rework.specs.worlds.Places.{aboveAt, handed, place}
 use Rattle.tree_rework.proofs.worlds.Handed.{handed-down}
 use Rattle.tree_rework.specs.boxes.Damage.{laid}
 use Rattle.tree_rework.proofs.boxes.Rooms.{front-grows}
@@ -29,7 +29,7 @@ use Rattle.tree_rework.proofs.entries.Same.{index-same, keys-same}
 -- what the first step works out
 abbrev pub placeOf : Tree → ℕ → Placed
 placeOf T i =
-    place (handed (T .worlds .transform) (T .worlds .clipped) (T .worlds .clip) (above (T .links .order) (T .links .depth) i)) (T .locals .transform) (T .locals .kind) (T .locals .clip) (slotAt T i)
+    place (handed (T .worlds .transform) (T .worlds .clipped) (T .worlds .clip) (aboveAt (T .links .order) (T .links .depth) i)) (T .locals .transform) (T .locals .kind) (T .locals .clip) (slotAt T i)
 
 place-is : (T : Tree) (i : ℕ) → placeOf T i ≡ newPlace T i (slotAt T i)
 place-is T i = ap (λ (P : Placed). placed P (affineAt (T .locals .transform) (slotAt T i)) (clipOf T (slotAt T i))) (sym (handed-down T i))

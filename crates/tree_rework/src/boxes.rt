@@ -8,6 +8,8 @@ ghost use Rattle.tree_worlds.specs.World.{worldBox, hitBox};
 ghost use Rattle.tree_steps.specs.Commit.{damageOf};
 ghost use Rattle.tree_rework.specs.boxes.Damage as spec;
 use geometry::rect::Rect;
+use index_types::Aabb2D;
+use index_types::flat_tables::put_box_in;
 use tree_worlds::Placed;
 
 // Puts a rectangle behind the n that stand in the room.
@@ -15,11 +17,7 @@ fn put_rect_in(room: &mut [f64], n: usize, r: Rect)
     requires { ⌜ (n < 512) × (4 * n + 4 ≤ length (now room)) ⌝ }
     ensures { λ _. ⌜ now (room .exit) ≡ putRect (now (room .entry)) n r ⌝ }
 {
-    let p = 4 * n;
-    room[p] = r.x0;
-    room[p + 1] = r.y0;
-    room[p + 2] = r.x1;
-    room[p + 3] = r.y1;
+    put_box_in(room, n, Aabb2D::new(r.x0, r.y0, r.x1, r.y1));
 }
 
 // The same for a box that has changed, if it has area. How many stand there then is returned.

@@ -16,7 +16,7 @@ fn handed_down<'a>(
     at: usize,
 ) -> Placed
     requires { ⌜ (at < 256) × (length (now order) ≡ 256) × (length (now depth) ≡ 256) × ((j : ℕ) → j < at → getD (now order) j 0 < 256) ⌝ }
-    ensures { λ r. ⌜ (let above = spec.above (now (order .entry)) (now (depth .entry)) at in
+    ensures { λ r. ⌜ (let above = spec.aboveAt (now (order .entry)) (now (depth .entry)) at in
         r ≡ spec.handed (now (transform .entry)) (now (clipped .entry)) (now (clip .entry)) above) ⌝ }
 {
     let parent = link_table::parent_at(order, depth, at, 256);
@@ -45,7 +45,7 @@ pub(crate) fn place_node<'a>(
 ) -> Placed
     requires { ⌜ (x < 256) × (at < 256) × (length (now order) ≡ 256) × (length (now depth) ≡ 256)
         × ((j : ℕ) → j < at → getD (now order) j 0 < 256) ⌝ }
-    ensures place { λ r. ⌜ (let above = spec.above (now (order .entry)) (now (depth .entry)) at in
+    ensures place { λ r. ⌜ (let above = spec.aboveAt (now (order .entry)) (now (depth .entry)) at in
         let parent = spec.handed (now («worlds_transform» .entry)) (now (clipped .entry)) (now («worlds_clip» .entry)) above in
         r ≡ spec.place parent (now («locals_transform» .entry)) (now (kind .entry)) (now («locals_clip» .entry)) x) ⌝ }
     ensures transforms { λ r. ⌜ now («worlds_transform» .exit) ≡ putAffine (now («worlds_transform» .entry)) x (r .transform) ⌝ }

@@ -47,13 +47,13 @@ unfolding rectsInFront floats
 rects = (refl, refl)
 
 -- the index's: boxes of a commit, entries of a query
-pub boxes : (damage.inFront [] floats ≡ floats)
-    × (damage.inFront (aabb (num 0) (num 1) (num 2) (num 3) ∷ []) floats ≡ num 0 ∷ num 1 ∷ num 2 ∷ num 3 ∷ num 9 ∷ [])
-unfolding damage.inFront damage.flat floats
+pub boxes : (damage.boxesInFront [] floats ≡ floats)
+    × (damage.boxesInFront (aabb (num 0) (num 1) (num 2) (num 3) ∷ []) floats ≡ num 0 ∷ num 1 ∷ num 2 ∷ num 3 ∷ num 9 ∷ [])
+unfolding damage.boxesInFront damage.flat floats
 boxes = (refl, refl)
 
-pub entries : (query.inFront [] room ≡ room)
-    × (query.inFront (query.entries (1 ∷ 2 ∷ []) (10 ∷ 11 ∷ 12 ∷ 13 ∷ []) (1 ∷ [])) room ≡ 1 ∷ 2 ∷ 12 ∷ 13 ∷ 9 ∷ [])
+pub entries : (query.entriesInFront [] room ≡ room)
+    × (query.entriesInFront (query.entries (1 ∷ 2 ∷ []) (10 ∷ 11 ∷ 12 ∷ 13 ∷ []) (1 ∷ [])) room ≡ 1 ∷ 2 ∷ 12 ∷ 13 ∷ 9 ∷ [])
     × (queryRoom freshIndex (0 ∷ []) room ≡ room)  -- refused: room for fewer than 512 entries
     × (queryRoom freshIndex (0 ∷ []) (replicate 2049 7) ≡ 0 ∷ 0 ∷ 0 ∷ 0 ∷ replicate 2045 7)
 unfolding query.entries idAt room queryRoom freshIndex soundOf onceBelow every times

@@ -41,7 +41,7 @@ fn in_clips<'a>(
     ensures { λ r. ⌜ r
         ≡ everyOf
         (spec.clipHolds (now (kind .entry)) (now (clip .entry)) (now (transform .entry)) point)
-        (spec.above (now (order .entry)) (now (depth .entry)) at) ⌝ }
+        (spec.aboveAt (now (order .entry)) (now (depth .entry)) at) ⌝ }
 {
     let mut d = depth[at];
     let mut j = at;

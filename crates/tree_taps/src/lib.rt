@@ -88,7 +88,7 @@ pub fn hit_test_point(t: Tree, point: Point, filter: QueryFilter, room: &mut [u3
         asked,
         point,
     );
-    if best == 256 { // nobody
+    if best == 256 {
         return Tapped::Nothing;
     }
     let x = best as u32;

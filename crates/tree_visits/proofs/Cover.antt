@@ -11,13 +11,13 @@ use Rattle.link_forest.specs.Forest.{Forest, has, above}
 use Rattle.link_forest.proofs.Bools.{never}
 use Rattle.link_forest.proofs.Laws.{below-within}
 use Rattle.link_forest.proofs.Rep.{rep-place, rep-end}
-use Rattle.link_forest.proofs.Sound.{Sound}
+use Rattle.link_forest.specs.Sound.{Sound}
 use Rattle.link_table.specs.Links.{endOf}
 use Rattle.tree_state.specs.declared.Tree.{Tree}
 use Rattle.tree_state.specs.Tree.{positionOf, isLive, markedAt, transformChangedAt, clipChangedAt, anyOf}
 use Rattle.tree_steps.specs.Commit.{ancestors, changedAt, walked, walkAll, startsOf, visitsOf}
 use Rattle.slot_order.proofs.Members.{slots-member, live-has}
-use Rattle.tree_visits.proofs.Owner.{Top, topmost, any-here, any-above}
+use Rattle.tree_visits.proofs.Owner.{Top, topmost, any-here, any-above, or-other}
 use Rattle.tree_visits.proofs.Walked.{live-at, live-segment, ancestors-live, walked-whole, walked-alone, positions-in}
 
 -- what a start has walked is among what all have
@@ -30,13 +30,9 @@ walk-has t (x ∷ xs) s i h =
       | no n ↦ omega (arith, miss s x n, walk-has t xs s i (omega (arith, miss s x n)), times-append i (walked t x) (walkAll t xs))
     ]
 
-none-of : (b : Bool) → (b ≡ true → ⊥) → b ≡ false
+pub none-of : (b : Bool) → (b ≡ true → ⊥) → b ≡ false
 none-of true n = absurd (n refl)
 none-of false n = refl
-
-first-of : (a b : Bool) → a || b ≡ true → b ≡ false → a ≡ true
-first-of true b e n = refl
-first-of false b e n = never e n
 
 module _ (t : Tree) (f : Forest) (S : Sound (t .links .order) (t .links .depth) (t .links .count) f) where
   -- a marked slot is a start
@@ -79,4 +75,4 @@ module _ (t : Tree) (f : Forest) (S : Sound (t .links .order) (t .links .depth) 
           let m : markedAt t s ≡ true = and-eq-true-iff (markedAt t s) (transformChangedAt t s || clipChangedAt t s) .0 (T .1 .passes) .0 in
           omega (arith, in-whole s x h (T .1), walk-has t (startsOf t) s (positionOf t x) (start-there s (T .1 .live) m))
       go false e =
-          omega (arith, in-own x h e, walk-has t (startsOf t) x (positionOf t x) (start-there x h (first-of (markedAt t x) (anyOf (changedAt t) (x ∷ above x f)) u e)))
+          omega (arith, in-own x h e, walk-has t (startsOf t) x (positionOf t x) (start-there x h (or-other (markedAt t x) (anyOf (changedAt t) (x ∷ above x f)) u e)))

@@ -10,7 +10,7 @@ use Rattle.counting.specs.Times.{tally, times}
 use Rattle.counting.proofs.Counting.{hit, times-append, shorter}
 use Rattle.link_forest.specs.Forest.{Forest, has, count, above}
 use Rattle.link_forest.proofs.Counting.{count-has}
-use Rattle.link_forest.proofs.Sound.{Sound}
+use Rattle.link_forest.specs.Sound.{Sound}
 use Rattle.tree_state.specs.declared.Tree.{Tree}
 use Rattle.tree_state.specs.Tree.{isLive, markedAt, anyOf}
 use Rattle.tree_steps.specs.Commit.{changedAt, walked, walkAll, startsOf, visitsOf}

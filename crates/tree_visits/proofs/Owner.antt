@@ -9,10 +9,10 @@ use borrow.Author.Tests.{ne-eqb}
 use lib.Dec.{eqb}
 use Rattle.counting.specs.Times.{times}
 use Rattle.counting.proofs.Counting.{hit}
-use Rattle.link_forest.specs.Forest.{Forest, none, tree, has, Distinct, kids, above, part, Holds}
+use Rattle.link_forest.specs.Forest.{Forest, none, tree, has, Distinct, kids, above, part}
 use Rattle.link_forest.proofs.Bools.{never}
 use Rattle.link_forest.proofs.Clauses.{has-top, has-low, has-rest, has-nothing}
-use Rattle.link_forest.proofs.Holds.{Found, found, holds-at, holds-part, Parent, Above, parent-above, above-below}
+use Rattle.link_forest.proofs.Holds.{Found, found, holds-at, holds-part, Parent, Above, parent-above, above-below, Holds}
 use Rattle.tree_state.specs.Tree.{anyOf}
 
 -- ---- one of two

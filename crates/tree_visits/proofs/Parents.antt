@@ -8,11 +8,11 @@ use lib.ListN.{length, getD, take, drop}
 use lib.Seq.{drop-cons}
 use Rattle.counting.specs.Times.{times}
 use Rattle.counting.proofs.Counting.{hit}
-use Rattle.link_forest.specs.Forest.{Forest, none, tree, pre, has, above, part, Holds}
+use Rattle.link_forest.specs.Forest.{Forest, none, tree, pre, has, above, part}
 use Rattle.link_forest.proofs.Bools.{never}
-use Rattle.link_forest.proofs.Holds.{Found, found, holds-part}
+use Rattle.link_forest.proofs.Holds.{Found, found, holds-part, Holds}
 use Rattle.link_forest.proofs.Rep.{rep-slot, rep-segment, rep-after, rep-within}
-use Rattle.link_forest.proofs.Sound.{Sound}
+use Rattle.link_forest.specs.Sound.{Sound}
 use Rattle.link_table.specs.Links.{endOf}
 use Rattle.tree_state.specs.declared.Tree.{Tree}
 use Rattle.tree_state.specs.Tree.{positionOf, anyOf, markedAt}

@@ -13,7 +13,7 @@ use Rattle.link_forest.specs.Forest.{Forest, has, count, above}
 use Rattle.link_forest.proofs.Bools.{never}
 use Rattle.link_forest.proofs.Counting.{has-count}
 use Rattle.link_forest.proofs.Rep.{rep-slot, rep-slot-has, rep-slot-at}
-use Rattle.link_forest.proofs.Sound.{Sound}
+use Rattle.link_forest.specs.Sound.{Sound}
 use Rattle.tree_state.specs.declared.Tree.{Tree}
 use Rattle.tree_state.specs.Tree.{positionOf, markedAt, anyOf}
 use Rattle.tree_steps.specs.Commit.{changedAt, visitsOf}

@@ -12,7 +12,7 @@ use Rattle.counting.proofs.Counting.{hit, miss, tally-small}
 use Rattle.link_forest.specs.Forest.{Forest, has, above}
 use Rattle.link_forest.proofs.Laws.{place-there}
 use Rattle.link_forest.proofs.Rep.{At, Segment, rep-slot, rep-slot-at, rep-ancestors, rep-after, rep-within, rep-within-below}
-use Rattle.link_forest.proofs.Sound.{Sound}
+use Rattle.link_forest.specs.Sound.{Sound}
 use Rattle.link_table.specs.Links.{endOf}
 use Rattle.tree_state.specs.declared.Tree.{Tree}
 use Rattle.tree_state.specs.Tree.{positionOf, anyOf}

@@ -6,7 +6,7 @@ use native.Mathlib.Omega.{arith}
 use lib.ListN.{length, take, drop, length-append}
 use lib.Seq.{take-at}
 use Rattle.link_forest.specs.Forest.{Forest}
-use Rattle.link_forest.proofs.Sound.{Sound}
+use Rattle.link_forest.specs.Sound.{Sound}
 use Rattle.link_table.specs.Links.{inFront}
 use Rattle.tree_state.specs.declared.Tree.{Tree}
 use Rattle.tree_state.specs.Tree.{markedAt}

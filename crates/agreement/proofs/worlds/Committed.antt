@@ -12,24 +12,20 @@ use Rattle.link_forest.proofs.Bools.{never}
 use Rattle.link_forest.proofs.Counting.{above-has, has-count}
 use Rattle.link_forest.proofs.Rep.{rep-times}
 use Rattle.tree_state.specs.declared.Tree.{Tree}
-use Rattle.tree_state.specs.Tree.{isLive, liveSlots, markedAt, committedAt, storedPlace, anyOf, needsCommit}
+use Rattle.tree_state.specs.Tree.{isLive, liveSlots, markedAt, committedAt, anyOf, needsCommit}
 use Rattle.tree_laws.proofs.Ground.{live-has}
 use Rattle.tree_steps.specs.Commit.{changedAt, visitsOf, reworkAll, begun, finished, workFor, commitTree}
 use Rattle.plan.specs.Lists.{any}
 use Rattle.plan.specs.Plan.{Plan, Mark}
 use Rattle.plan.specs.Visits.{countsAsChanged, committed}
-use Rattle.plan.specs.Afresh.{lineage, worldPlace, worldBounds, worldHitBounds}
-use Rattle.agreement.proofs.Same.{Known, Settled, Boxed, Right}
+use Rattle.plan.specs.Afresh.{lineage, worldBounds, worldHitBounds}
+use Rattle.agreement.specs.Afresh.{Afresh}
+use Rattle.agreement.proofs.Same.{Known, Settled, Right}
 use Rattle.agreement.proofs.worlds.Visits.{Visited, visited}
 use Rattle.agreement.proofs.worlds.Fold.{Fresh, Ran, ran}
 use Rattle.agreement.proofs.worlds.Entries.{Entered, Fitting, Inside, Entries, keyed-sound, good-inside, entries-ran}
 use Rattle.agreement.proofs.worlds.Keyed.{KeyedTree}
 use Rattle.agreement.proofs.worlds.Room.{sound-fitting}
-
--- every live node's stored place and boxes are those worked out afresh
-pub record Afresh (t : Tree) (p : Plan) : Type 0 where
-  pub place : (x : ℕ) → has x (p .links) ≡ true → storedPlace t x ≡ worldPlace p x
-  pub boxes : (x : ℕ) → has x (p .links) ≡ true → Boxed t p x
 
 pub afresh-right : (t : Tree) (p : Plan) → Afresh t p → Right t p
 afresh-right t p A = record { place = λ x h s. A .place x h; boxes = λ x h s m. A .boxes x h }

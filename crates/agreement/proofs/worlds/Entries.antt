@@ -21,10 +21,10 @@ use Rattle.tree_state.specs.declared.Tree.{Tree}
 use Rattle.tree_state.specs.Tree.{committedAt, keyAt, storedHitBounds}
 use Rattle.tree_state.specs.Tree as tree
 use Rattle.tree_state.specs.Sound.{SoundTree, Owns}
-use Rattle.tree_laws.proofs.Whole.{Whole}
+use Rattle.tree_laws.specs.Whole.{Whole}
 use Rattle.tree_laws.proofs.Ground.{Linked, low, slot-live, live-has}
 use Rattle.tree_steps.specs.Commit.{Work, newPlace, newHitBounds, reworked, rework, reworkAll, enterKeys}
-use Rattle.agreement.proofs.Same.{Alike}
+use Rattle.agreement.specs.Afresh.{Alike}
 use Rattle.link_forest.proofs.Bools.{never}
 use Rattle.agreement.proofs.worlds.Visits.{slotAt, Good}
 use Rattle.agreement.proofs.worlds.Keyed.{KeyedTree, keyed-turn, committed-now, committed-stays, key-stays}

@@ -13,7 +13,7 @@ use Rattle.link_forest.proofs.Holds.{Parent, Above, parent-above}
 use Rattle.tree_worlds.specs.declared.Placed.{Placed}
 use Rattle.tree_state.specs.declared.Tree.{Tree}
 use Rattle.tree_state.specs.Tree.{localAt, storedPlace, storedBounds, storedHitBounds, anyOf}
-use Rattle.tree_laws.proofs.Whole.{WholeWorlds}
+use Rattle.tree_laws.specs.Whole.{WholeWorlds}
 use Rattle.tree_laws.proofs.Ground.{Linked, low, slot-live, place-of-slot, ancestors-above}
 use Rattle.tree_steps.specs.Commit.{Work, changedAt, ancestors, handedDown, newPlace, reworked, rework, reworkAll}
 use Rattle.plan.specs.Plan.{Plan}

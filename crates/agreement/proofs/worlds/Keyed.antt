@@ -6,8 +6,7 @@ use mathlib.Core.List.{List}
 use Prim.Native.Nat.{ℕ, _<_}
 use native.Mathlib.Omega.{arith}
 use native.Mathlib.Decide.{ℕ-discrete}
-use lib.Dec.{ltb}
-use lib.ListN.{length, getD, set, take, length-set}
+use lib.ListN.{length, getD, set, length-set}
 use lib.Seq.{getD-set-same, getD-set-other}
 use lib.Ieee.{Float}
 use Rattle.numbers.proofs.Order.{four-alike}
@@ -18,7 +17,6 @@ use Rattle.index_types.specs.declared.NodeId.{NodeId}
 use Rattle.index_types.specs.Boxes.{aabbEq}
 use Rattle.index_types.specs.flat_tables.Tables.{boxAt, putBox}
 use Rattle.index_types.proofs.flat_tables.Laws.{box-same, box-other, box-length, id-length}
-use Rattle.counting.specs.Times.{times}
 use Rattle.tree_types.specs.Local.{rectToAabb}
 use Rattle.node_tables.specs.Tables.{rectAt, putRect}
 use Rattle.node_tables.proofs.Laws.{rect-same, rect-other, rect-length}
@@ -30,13 +28,13 @@ use Rattle.index_entries.proofs.Found.{slot-unused}
 use Rattle.index_entries.proofs.Keep.{slot-empty, keep-insert, keep-update}
 use Rattle.index_state.specs.declared.Index.{Index}
 use Rattle.index_state.specs.Index.{slotOf, generationOf, insertOf, updateOf, markAt}
-use Rattle.index_state.proofs.Soundness.{Counts}
+use Rattle.index_state.proofs.Soundness.{Counts, queue-length}
 use Rattle.tree_state.specs.declared.Keys.{Keys}
 use Rattle.tree_state.specs.declared.Tree.{Tree}
 use Rattle.tree_state.specs.Tree.{committedAt, idAt, keyAt}
-use Rattle.tree_laws.proofs.Whole.{WholeKeys, WholeIndex}
+use Rattle.tree_laws.specs.Whole.{WholeKeys, WholeIndex}
 use Rattle.tree_steps.specs.Commit.{enterKeys, enterIndex}
-use Rattle.agreement.proofs.Same.{Alike, itself, as-numbers}
+use Rattle.agreement.specs.Afresh.{Alike, itself, as-numbers}
 
 -- ---- boxes alike
 
@@ -49,14 +47,6 @@ alike-on a r s (as-numbers e) h =
     (four-alike (a .«min_x») (a .«min_y») (a .«max_x») (a .«max_y») (r .x0) (r .y0) (r .x1) (r .y1) e (s .x0) (s .y0) (s .x1) (s .y1) ∙ h)
 
 -- ---- lengths
-queue-length : (dirty : List ℕ) (n x : ℕ) → length (queueWith dirty n x) ≡ length dirty
-unfolding queueWith
-queue-length dirty n x = go (ltb 0 (times x (take n dirty)))
-  where
-    go : (b : Bool) → length (cond b dirty (set dirty n x)) ≡ length dirty
-    go true = refl
-    go false = length-set dirty n x
-
 if-length : {A : Type 0} (b : Bool) (l m : List A) (n : ℕ) → length l ≡ n → length m ≡ n → length (cond b l m) ≡ n
 if-length true l m n p q = p
 if-length false l m n p q = q

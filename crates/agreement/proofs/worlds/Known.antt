@@ -1,6 +1,6 @@
 -- An accepted commit keeps all that a tree and a plan agree in.
 use mathlib.Core.Path.{_≡_, refl, sym, ap, _∙_, subst}
-use mathlib.Core.Bool.{Bool, true, false, _&&_, _||_, cond}
+use mathlib.Core.Bool.{Bool, true, false, _&&_, cond}
 use mathlib.Core.List.{List, [], _∷_, _++_, map, reverse, append-nil}
 use Prim.Native.Nat.{ℕ, zero, suc, _≤_, _<_}
 use native.Mathlib.Omega.{arith}
@@ -11,11 +11,13 @@ use Rattle.counting.specs.Times.{times}
 use Rattle.counting.proofs.Counting.{hit}
 use Rattle.link_forest.specs.Forest.{Forest, has}
 use Rattle.link_forest.proofs.Bools.{never}
-use Rattle.index_sound.proofs.Exact.{CountOf, counted}
+use Rattle.index_sound.proofs.Exact.{counted}
+use Rattle.index_sound.specs.Sound.{CountOf}
 use Rattle.index_commit.specs.Commit.{start, work}
 use Rattle.index_commit.proofs.Keep.{keep-commit}
 use Rattle.index_state.specs.declared.Index.{Index}
 use Rattle.index_state.specs.Index.{workOf}
+use Rattle.index_state.proofs.Calls.{or-none}
 use Rattle.tree_state.specs.declared.Tree.{Tree}
 use Rattle.tree_state.specs.Tree.{isLive, liveSlots, localAt, markedAt, transformChangedAt, clipChangedAt, entryMark, isRemoved, some, anyOf, needsCommit}
 use Rattle.tree_laws.proofs.Ground.{Linked, live-has}
@@ -23,7 +25,8 @@ use Rattle.tree_steps.specs.SlotOrder.{putIn, slotsBelow}
 use Rattle.tree_steps.specs.Commit.{begun, startsBelow, walkAll, visitsOf, finished, workFor, commitTree}
 use Rattle.plan.specs.Plan.{Plan, noMark, Entries}
 use Rattle.plan.specs.Visits.{visits, enter, freeRemoved, committed}
-use Rattle.agreement.proofs.Same.{Same, Known, markOf, entryOf}
+use Rattle.agreement.proofs.Same.{Same, Known}
+use Rattle.agreement.specs.Read.{markOf, entryOf}
 use Rattle.agreement.proofs.worlds.Visits.{slotAt, Visited, visited}
 use Rattle.agreement.proofs.worlds.Keyed.{KeyedTree}
 use Rattle.agreement.proofs.worlds.Entries.{Entered}
@@ -101,15 +104,11 @@ unfolding times
 no-members [] h = refl
 no-members (x ∷ l) h = absurd (h x (omega (arith, hit x)))
 
-neither : (a b : Bool) → a || b ≡ false → (a ≡ false) × (b ≡ false)
-neither true b e = never refl e
-neither false b e = (refl, e)
-
 none-of-some : (n : ℕ) (q : ℕ → Bool) → some n q ≡ false → (k : ℕ) → k < n → q k ≡ false
 unfolding some
 none-of-some zero q e k l = absurd (omega arith)
 none-of-some (suc n) q e k l =
-    let w = neither (some n q) (q n) e in
+    let w = or-none (some n q) (q n) e in
     elim (ℕ-discrete k n) [ yes d ↦ rw (d, w .1) | no m ↦ none-of-some n q (w .0) k (omega arith) ]
 
 no-starts : (t : Tree) → ((x : ℕ) → isLive t x ≡ true → markedAt t x ≡ false) → (n : ℕ) → startsBelow t n ≡ []
@@ -137,7 +136,7 @@ module _ (t : Tree) (p : Plan) (K : Known t p) (walks : Walks t p) (calm : needs
   none-removed : (k : ℕ) → k < 512 → isRemoved (entryMark t k) ≡ false
   unfolding needsCommit
   none-removed k l =
-      none-of-some 512 (λ j. isRemoved (entryMark t j)) (neither (anyOf (markedAt t) (liveSlots t)) _ (neither _ _ calm .0) .1) k l
+      none-of-some 512 (λ j. isRemoved (entryMark t j)) (or-none (anyOf (markedAt t) (liveSlots t)) _ (or-none _ _ calm .0) .1) k l
 
   nothing-queued : take (t .index .queued) (t .index .dirty) ≡ []
   nothing-queued = no-members (take (t .index .queued) (t .index .dirty)) (λ y h. empty y h)

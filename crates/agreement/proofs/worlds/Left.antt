@@ -20,14 +20,15 @@ use Rattle.index_commit.specs.Commit as commit
 use Rattle.index_commit.specs.Commit.{Act, rests, adds, moves, drops, actOf, keptStep, start, work, workStep}
 use Rattle.index_commit.proofs.Loop.{slot-low}
 use Rattle.index_commit.proofs.Keep.{commit-whole}
-use Rattle.index_commit.proofs.Agree.{Agree, own-work}
+use Rattle.index_commit.proofs.Agree.{own-work}
+use Rattle.index_commit.specs.Agree.{Agree}
 use Rattle.index_state.specs.declared.Index.{Index}
 use Rattle.index_state.specs.Index.{slotOf, markAt, workOf, commitOf}
 use Rattle.index_state.proofs.Backend.{away, updated-mark, updated-unseen}
 use Rattle.tree_state.specs.declared.Pending.{Pending}
 use Rattle.tree_state.specs.declared.Tree.{Tree}
 use Rattle.tree_state.specs.Tree.{committedAt, keyAt, storedHitBounds, needsCommit}
-use Rattle.tree_laws.proofs.Whole.{Whole, WholeSlots, WholeLinks, WholeLocals, WholeIndex}
+use Rattle.tree_laws.specs.Whole.{Whole, WholeSlots, WholeLinks, WholeLocals, WholeIndex}
 use Rattle.tree_laws.proofs.Ground.{Linked, slot-live}
 use Rattle.tree_steps.specs.Commit.{Work, enterIndex, newPlace, newHitBounds, rework, reworkAll, begun, visitsOf, workFor, commitTree}
 use Rattle.plan.specs.Plan.{Plan}
@@ -69,7 +70,7 @@ backed-ran f (i ∷ is) k L K I F B =
     (backed-turn t f K x h (rectToAabb b) B (committedAt t x) (rectEq (storedHitBounds t x) b) refl (F .0))
 
 -- ---- the index's own commit
-kept-step : (a : Act) (kept : List ℕ) (x : ℕ) → length (keptStep a kept x) ≡ length kept
+pub kept-step : (a : Act) (kept : List ℕ) (x : ℕ) → length (keptStep a kept x) ≡ length kept
 kept-step rests kept x = refl
 kept-step adds kept x = refl
 kept-step moves kept x = length-set kept x 0

@@ -34,7 +34,7 @@ use Rattle.tree_laws.proofs.Ground.{Linked, low, slot-live}
 use Rattle.tree_steps.specs.Commit.{Work, enterKeys, enterIndex, newPlace, newHitBounds, rework, reworkAll}
 use Rattle.plan.specs.Plan.{Entry, number, Entries, slotFrom, freeAfter, usedAfter}
 use Rattle.plan.specs.Visits.{takeEntry, enterAs, enter}
-use Rattle.agreement.proofs.Same.{entryIf}
+use Rattle.agreement.specs.Read.{entryIf}
 use Rattle.agreement.proofs.worlds.Visits.{slotAt}
 use Rattle.agreement.proofs.worlds.Keyed.{Keyed, KeyedTree, Committed, entry, vacant}
 use Rattle.agreement.proofs.worlds.Entries.{Fitting, Inside, turn-keyed}

@@ -11,10 +11,10 @@ use Rattle.link_forest.specs.Forest.{Forest, has, above}
 use Rattle.index_state.specs.Index.{slotOf}
 use Rattle.tree_state.specs.declared.Tree.{Tree}
 use Rattle.tree_state.specs.Tree.{localAt, committedAt, keyAt, storedPlace, storedBounds, storedHitBounds}
-use Rattle.tree_laws.proofs.Whole.{WholeWorlds}
+use Rattle.tree_laws.specs.Whole.{WholeWorlds}
 use Rattle.tree_laws.proofs.Ground.{Linked, low, slot-live}
 use Rattle.tree_steps.specs.Commit.{Work, handedDown, newPlace, newHitBounds, rework}
-use Rattle.agreement.proofs.Same.{Alike}
+use Rattle.agreement.specs.Afresh.{Alike}
 use Rattle.agreement.proofs.worlds.Visits.{slotAt}
 use Rattle.agreement.proofs.worlds.Turn.{place-now, bounds-now, hit-now, whole-worlds}
 use Rattle.agreement.proofs.worlds.Keyed.{KeyedTree, box-stays}

@@ -18,13 +18,14 @@ use Rattle.link_forest.proofs.Counting.{has-count}
 use Rattle.link_forest.proofs.Rep.{rep-times}
 use Rattle.index_entries.proofs.Found.{used-unused, used-last}
 use Rattle.index_entries.proofs.Keep.{slot-fits}
-use Rattle.index_sound.proofs.Exact.{CountOf, counted}
+use Rattle.index_sound.proofs.Exact.{counted}
+use Rattle.index_sound.specs.Sound.{CountOf}
 use Rattle.link_table.specs.declared.Links.{Links}
 use Rattle.index_state.specs.Index.{slotOf}
 use Rattle.tree_state.specs.declared.Tree.{Tree}
 use Rattle.tree_state.specs.Tree.{isLive, liveSlots, committedAt, keyAt, entryMark, isRemoved, storedHitBounds}
 use Rattle.tree_state.specs.Sound.{SoundTree, countOf, countBelow}
-use Rattle.tree_laws.proofs.Whole.{Whole}
+use Rattle.tree_laws.specs.Whole.{Whole}
 use Rattle.tree_laws.proofs.Ground.{Linked, live-has, slot-live}
 use Rattle.tree_steps.specs.Commit.{Work, enterIndex, newPlace, newHitBounds, rework}
 use Rattle.geometry.specs.Rectangle.{rectEq}

@@ -22,7 +22,7 @@ use Rattle.index_state.proofs.Soundness.{Counts}
 use Rattle.tree_state.specs.declared.Tree.{Tree}
 use Rattle.tree_state.specs.Tree.{liveSlots, localAt, markedAt, transformChangedAt, clipChangedAt, committedAt, keyAt, entryMark, isRemoved, needsCommit}
 use Rattle.tree_state.specs.Sound.{SoundTree, Owns, Live, countOf, countBelow, removedEntries}
-use Rattle.tree_laws.proofs.Whole.{WholeIndex}
+use Rattle.tree_laws.specs.Whole.{WholeIndex}
 use Rattle.tree_laws.proofs.Ground.{live-has}
 use Rattle.tree_steps.specs.Commit.{begun, visitsOf, finished, workFor, commitTree}
 use Rattle.plan.specs.Plan.{Plan}
@@ -35,7 +35,7 @@ use Rattle.agreement.proofs.worlds.Committed.{done, inside, keyed, fits
 use Rattle.agreement.proofs.worlds.Owned.{OwnedTree, Comes, comes-work, owned-ran, owned-sound}
 
 -- ---- counts
-count-none : (n : ℕ) (p : ℕ → Bool) → ((k : ℕ) → p k ≡ false) → countBelow n p ≡ 0
+pub count-none : (n : ℕ) (p : ℕ → Bool) → ((k : ℕ) → p k ≡ false) → countBelow n p ≡ 0
 unfolding countBelow
 count-none zero p h = refl
 count-none (suc n) p h = rw (count-none n p h, h n) (omega arith)
@@ -45,7 +45,7 @@ unfolding countOf
 count-few p [] = omega arith
 count-few p (x ∷ l) = omega (arith, count-few p l, tally-small (p x))
 
-no-mark : (n x : ℕ) → getD (replicate n false) x false ≡ false
+pub no-mark : (n x : ℕ) → getD (replicate n false) x false ≡ false
 no-mark zero x = refl
 no-mark (suc n) zero = refl
 no-mark (suc n) (suc x) = no-mark n x
@@ -72,13 +72,13 @@ module _ (t r : Tree) (w : length (t .links .order) ≡ 256) (S : SoundTree t) (
   same-live : (x : ℕ) → Live t x → Live r x
   same-live x h = rw (F .links) h
 
-  none-removed : removedEntries r ≡ 0
+  pub none-removed : removedEntries r ≡ 0
   none-removed = count-none 512 (λ k. isRemoved (entryMark r k)) (λ k. lt-leb 4 (entryMark r k) (omega (arith, F .marks k)))
 
   live-few : length (liveSlots r) ≤ 256
   live-few = rw (F .links) (omega (arith, S .count-fits, length-take-le (t .links .count) (t .links .order) (omega (arith, S .count-fits))))
 
-  finished-sound : SoundTree r
+  pub finished-sound : SoundTree r
   unfolding localAt
   finished-sound =
       record {

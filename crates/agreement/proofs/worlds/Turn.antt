@@ -10,7 +10,7 @@ use Rattle.node_tables.specs.Tables.{isThere}
 use Rattle.node_tables.proofs.Laws.{rect-same, rect-other, rect-length, affine-same, affine-other, affine-length, clip-rect-same, clip-rect-other, clip-rect-length}
 use Rattle.tree_state.specs.declared.Tree.{Tree}
 use Rattle.tree_state.specs.Tree.{storedPlace, storedBounds, storedHitBounds}
-use Rattle.tree_laws.proofs.Whole.{WholeWorlds}
+use Rattle.tree_laws.specs.Whole.{WholeWorlds}
 use Rattle.tree_steps.specs.Commit.{newBounds, newHitBounds, reworked}
 
 -- what is stored at x

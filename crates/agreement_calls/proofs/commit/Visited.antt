@@ -1,6 +1,6 @@
 -- What the proof of a commit takes of its visits, from the laws of tree_visits.
-use mathlib.Core.Path.{_≡_, refl}
-use mathlib.Core.Bool.{Bool, true, false, _||_}
+use mathlib.Core.Path.{_≡_}
+use mathlib.Core.Bool.{Bool, true}
 use mathlib.Core.List.{List, [], _∷_}
 use Prim.Native.Nat.{ℕ, _≤_, _<_}
 use native.Mathlib.Omega.{arith}
@@ -15,14 +15,8 @@ use Rattle.tree_visits.proofs.Laws.{visits-low, visits-once}
 use Rattle.tree_visits.proofs.Parents as parents
 use Rattle.tree_visits.proofs.Parents.{slotsAt, visits-parent}
 use Rattle.tree_visits.proofs.Slots.{slots-cover}
+use Rattle.tree_visits.proofs.Owner.{or-right, or-left}
 use Rattle.agreement.proofs.worlds.Visits.{slotAt, Seen, Good, Visited}
-
-or-first : (a b : Bool) → a ≡ true → a || b ≡ true
-or-first a b e = rw e
-
-or-second : (a b : Bool) → b ≡ true → a || b ≡ true
-or-second true b e = refl
-or-second false b e = e
 
 ready-seen : (q : ℕ → Bool) (seen l : List ℕ) → parents.Ready q seen l → anyOf q l ≡ true → Seen seen l
 ready-seen q seen [] r e = tt
@@ -44,8 +38,8 @@ module _ (t : Tree) (f : Forest) (L : Linked t f) where
         good = good-places (visitsOf t) [] (visits-low t f L) (visits-parent t f L);
         covers =
             record {
-              marked = λ x h m. slots-cover t f L x h (or-first (markedAt t x) (anyOf (changedAt t) (x ∷ above x f)) m);
-              changed = λ x h c. slots-cover t f L x h (or-second (markedAt t x) (anyOf (changedAt t) (x ∷ above x f)) c);
+              marked = λ x h m. slots-cover t f L x h (or-left (markedAt t x) (anyOf (changedAt t) (x ∷ above x f)) m);
+              changed = λ x h c. slots-cover t f L x h (or-right (markedAt t x) (anyOf (changedAt t) (x ∷ above x f)) c);
             };
         once = visits-once t f L;
       }

@@ -23,10 +23,10 @@ use Rattle.slot_order.proofs.Sorted.{in-order}
 use Rattle.tree_visits.proofs.Walked.{walked-covered, walked-whole, walked-alone}
 use Rattle.tree_visits.proofs.Laws.{first-live, rest-live, all-live}
 use Rattle.tree_visits.proofs.Parents.{slotsAt, slots-row}
-use Rattle.plan.specs.Lists.{keep, joined, sorted}
+use Rattle.plan.specs.Lists.{keep, joined, sorted, Rising}
 use Rattle.plan.specs.Plan.{Plan, Mark, nodes}
 use Rattle.plan.specs.Visits.{countsAsChanged, older, starts, covered, walk, visits}
-use Rattle.plan.proofs.Sorting.{Rising, settled, times-sorted, rising-sorted, strict}
+use Rattle.plan.proofs.Sorting.{settled, times-sorted, rising-sorted, strict}
 use Rattle.agreement.proofs.Same.{Known}
 use Rattle.agreement_calls.proofs.Tests.{any-alike}
 

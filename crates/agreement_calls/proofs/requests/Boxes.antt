@@ -6,7 +6,7 @@ use Rattle.numbers.proofs.Bools.{four}
 use Rattle.numbers.proofs.Order.{le-alike, le-alike-right}
 use Rattle.index_types.specs.declared.Aabb2D.{Aabb2D}
 use Rattle.index_types.specs.Boxes.{containsPoint, overlaps, aabbEq}
-use Rattle.agreement.proofs.Same.{Alike, itself, as-numbers}
+use Rattle.agreement.specs.Afresh.{Alike, itself, as-numbers}
 
 module _ (a b : Aabb2D) where
   contains-equal : aabbEq a b ≡ true → (x y : Float) → containsPoint a x y ≡ containsPoint b x y

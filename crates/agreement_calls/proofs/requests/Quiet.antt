@@ -29,7 +29,9 @@ use Rattle.tree_types.specs.declared.LocalNode.{LocalNode}
 use Rattle.plan.specs.Plan.{Plan, Slots, Mark, Entry, number, nodes, idOf, needsCommit}
 use Rattle.plan.specs.Visits.{countsAsChanged}
 use Rattle.plan.specs.Afresh.{lineage, worldPlace, worldHitBounds}
-use Rattle.agreement.proofs.Same.{Known, Settled, Boxed, entryIf}
+use Rattle.agreement.proofs.Same.{Known, Settled}
+use Rattle.agreement.specs.Afresh.{Boxed}
+use Rattle.agreement.specs.Read.{entryIf}
 use Rattle.agreement_calls.proofs.requests.Lists.{In, Every, every-in, any-false, any-none}
 use Rattle.agreement_calls.proofs.requests.Boxes.{Fair}
 

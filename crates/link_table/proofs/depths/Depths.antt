@@ -5,28 +5,14 @@ use mathlib.Core.List.{List, [], _∷_, _++_}
 use Prim.Native.Nat.{ℕ, zero, suc, _+_, _-_, _≤_, _<_}
 use native.Mathlib.Numerals.{add-one}
 use native.Mathlib.Omega.{arith}
-use borrow.Author.Tests.{lt-ltb, le-ltb, le-leb, lt-leb, leb-true}
-use lib.Dec.{ltb, leb}
+use borrow.Author.Tests.{le-leb, lt-leb, leb-true}
+use lib.Dec.{leb}
 use lib.ListN.{length, take, drop, getD}
 use lib.Seq.{slice-cons, slice-empty, take-suc, length-take-le}
 use Rattle.link_forest.specs.Table.{lastAbove, depthsFrom}
+use Rattle.link_forest.proofs.Lists.{last-less, last-more, last-append}
 
 -- ---- parent_at
-above-less : (k a x d : ℕ) (xs ds : List ℕ) → d < k → lastAbove k a (x ∷ xs) (d ∷ ds) ≡ lastAbove k x xs ds
-unfolding lastAbove
-above-less k a x d xs ds h = rw (lastAbove, lt-ltb d k h)
-
-above-more : (k a x d : ℕ) (xs ds : List ℕ) → k ≤ d → lastAbove k a (x ∷ xs) (d ∷ ds) ≡ lastAbove k a xs ds
-unfolding lastAbove
-above-more k a x d xs ds h = rw (lastAbove, le-ltb d k h)
-
-above-append : (k a : ℕ) (xs ds ys es : List ℕ) → length xs ≡ length ds → lastAbove k a (xs ++ ys) (ds ++ es) ≡ lastAbove k (lastAbove k a xs ds) ys es
-unfolding lastAbove
-above-append k a [] [] ys es h = refl
-above-append k a [] (d ∷ ds) ys es h = absurd (omega arith)
-above-append k a (x ∷ xs) [] ys es h = absurd (omega arith)
-above-append k a (x ∷ xs) (d ∷ ds) ys es h = above-append k (elim (ltb d k) [ true ↦ x | false ↦ a ]) xs ds ys es (omega arith)
-
 module _ (k a j : ℕ) (xs ds : List ℕ) (pos : 0 < j) (lx : j ≤ length xs) (ld : j ≤ length ds) where
   last-above : lastAbove k a (take j xs) (take j ds) ≡ lastAbove k (lastAbove k a (take (j - 1) xs) (take (j - 1) ds)) (getD xs (j - 1) 0 ∷ []) (getD ds (j - 1) 0 ∷ [])
   last-above =
@@ -34,15 +20,15 @@ module _ (k a j : ℕ) (xs ds : List ℕ) (pos : 0 < j) (lx : j ≤ length xs) (
       let l : length (take (j - 1) xs) ≡ length (take (j - 1) ds) = length-take-le (j - 1) xs (omega arith) ∙ sym (length-take-le (j - 1) ds (omega arith)) in
       let u : take j xs ≡ take (j - 1) xs ++ (getD xs (j - 1) 0 ∷ []) = ap (λ (m : ℕ). take m xs) w ∙ take-suc xs (j - 1) 0 (omega arith) in
       let v : take j ds ≡ take (j - 1) ds ++ (getD ds (j - 1) 0 ∷ []) = ap (λ (m : ℕ). take m ds) w ∙ take-suc ds (j - 1) 0 (omega arith) in
-      rw (u, v) (above-append k a (take (j - 1) xs) (take (j - 1) ds) (getD xs (j - 1) 0 ∷ []) (getD ds (j - 1) 0 ∷ []) l)
+      rw (u, v) (last-append k a (take (j - 1) xs) (take (j - 1) ds) (getD xs (j - 1) 0 ∷ []) (getD ds (j - 1) 0 ∷ []) l)
 
   pub parent-stop : getD ds (j - 1) 0 < k → lastAbove k a (take j xs) (take j ds) ≡ getD xs (j - 1) 0
   unfolding lastAbove
-  parent-stop h = last-above ∙ above-less k (lastAbove k a (take (j - 1) xs) (take (j - 1) ds)) (getD xs (j - 1) 0) (getD ds (j - 1) 0) [] [] h
+  parent-stop h = last-above ∙ last-less k (lastAbove k a (take (j - 1) xs) (take (j - 1) ds)) (getD xs (j - 1) 0) (getD ds (j - 1) 0) [] [] h
 
   pub parent-on : k ≤ getD ds (j - 1) 0 → lastAbove k a (take j xs) (take j ds) ≡ lastAbove k a (take (j - 1) xs) (take (j - 1) ds)
   unfolding lastAbove
-  parent-on h = last-above ∙ above-more k (lastAbove k a (take (j - 1) xs) (take (j - 1) ds)) (getD xs (j - 1) 0) (getD ds (j - 1) 0) [] [] h
+  parent-on h = last-above ∙ last-more k (lastAbove k a (take (j - 1) xs) (take (j - 1) ds)) (getD xs (j - 1) 0) (getD ds (j - 1) 0) [] [] h
 
 -- ---- depths_ok
 shape-cons : (b d : ℕ) (ds : List ℕ) (s j : Bool) → leb 1 d ≡ s → leb d (suc b) ≡ j → depthsFrom b (d ∷ ds) ≡ (s && j && depthsFrom d ds)

@@ -11,7 +11,7 @@ use Rattle.sheet_format.specs.Sheet.{tapWidth}
 use Rattle.tree_state.specs.declared.Tree.{Tree}
 use Rattle.sheet_format.specs.Told.{rowsOf, rowAt}
 use Rattle.sheet_calls.specs.Answers.{decimal, lineOf}
-use Rattle.sheet_laws.proofs.Tables.{rows-many, rows-at}
+use Rattle.sheet_format.proofs.Tables.{rows-length, row-at}
 use Rattle.sheet_answers.proofs.text.Digits.{short}
 use Rattle.sheet_answers.specs.tap_lines.Lines.{tapLine, tapText}
 
@@ -44,15 +44,15 @@ module _ (t : Tree) (taps : List ℤ) (n i : ℕ) (h : i < n) where
   pub next-text : tapText t 1 (take (i + 1) (rowsOf tapWidth n taps)) ≡ tapText t 1 (take i (rowsOf tapWidth n taps)) ++ tapLine t (i + 1) (rowAt tapWidth i taps)
   next-text =
       let rows = rowsOf tapWidth n taps in
-      let l : i < length rows = omega (arith, rows-many tapWidth n taps) in
+      let l : i < length rows = omega (arith, rows-length tapWidth n taps) in
       let e : 1 + length (take i rows) ≡ i + 1 = omega (arith, length-take-le i rows (omega arith)) in
       ap (λ (k : ℕ). tapText t 1 (take k rows)) (add-one i)
-      ∙ ap (tapText t 1) (take-suc rows i [] l ∙ ap (λ (r : List ℤ). take i rows ++ r ∷ []) (rows-at tapWidth n taps i h))
+      ∙ ap (tapText t 1) (take-suc rows i [] l ∙ ap (λ (r : List ℤ). take i rows ++ r ∷ []) (row-at tapWidth n i taps h))
       ∙ text-more t 1 (take i rows) (rowAt tapWidth i taps)
       ∙ ap (λ (k : ℕ). tapText t 1 (take i rows) ++ tapLine t k (rowAt tapWidth i taps)) e
 
 pub all-text : (t : Tree) (taps : List ℤ) (n : ℕ) → tapText t 1 (take n (rowsOf tapWidth n taps)) ≡ tapText t 1 (rowsOf tapWidth n taps)
-all-text t taps n = ap (λ (k : ℕ). tapText t 1 (take k (rowsOf tapWidth n taps))) (sym (rows-many tapWidth n taps)) ∙ ap (tapText t 1) (take-length (rowsOf tapWidth n taps))
+all-text t taps n = ap (λ (k : ℕ). tapText t 1 (take k (rowsOf tapWidth n taps))) (sym (rows-length tapWidth n taps)) ∙ ap (tapText t 1) (take-length (rowsOf tapWidth n taps))
 
 pub no-text : (t : Tree) (rows : List (List ℤ)) → tapText t 1 (take 0 rows) ≡ []
 unfolding tapText

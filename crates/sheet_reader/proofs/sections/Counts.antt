@@ -14,13 +14,11 @@ use mir.Val.{Fits}
 use Rattle.sheet_lines.specs.Lines.{lineWidth}
 use Rattle.sheet_lines.specs.declared.LineRow.{LineRow}
 use Rattle.sheet_lines.specs.Saturated.{row, firstFields, toldLine}
+use Rattle.sheet_lines.proofs.Bounds.{clash}
 use Rattle.sheet_format.specs.Sheet.{mostLines, Rule, stopped, ended, within, column, countRule, section, counted}
 use Rattle.sheet_format.specs.declared.Kind.the-variants as kind
 use Rattle.sheet_reader.proofs.sections.Ranges.{Blind, blind, and-left, and-right, inRange-row}
 use Rattle.sheet_reader.proofs.sections.Steps.{stop-21, stop-22, pass}
-
-clash : {A : Type 0} → false ≡ true → A
-clash h = let z : _≡_ {A = ℕ} 0 1 = cc in absurd (omega arith)
 
 one-number : (l : List ℤ) → length l ≡ lineWidth → take 1 l ≡ getD l 0 (pos 0) ∷ []
 one-number [] h = absurd (omega arith)

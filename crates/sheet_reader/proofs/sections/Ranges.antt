@@ -11,14 +11,11 @@ use lib.Signed.{leZ, mag}
 use lib.ListN.{length, getD, take, length-map, List·getD-map}
 use lib.Seq.{ext-getD, getD-take}
 use Rattle.sheet_lines.specs.Saturated.{saturated}
-use Rattle.sheet_lines.proofs.Bounds.{under, over, itself}
+use Rattle.sheet_lines.proofs.Bounds.{under, over, itself, clash}
 use Rattle.sheet_format.specs.Sheet.{placeWidth, clipWidth, tapWidth, mostLines, column, placeOf, clipOf, tapOf, within, coordinate, flagByte, placeInRange, clipInRange, tapInRange, parentEarlier, clippedBefore, clipPlaceOpen, Rule, countRule, placeRule, clipRule, tapRule}
 use Rattle.sheet_format.specs.Told.{ruleOf, boundOf}
 use Rattle.sheet_format.specs.declared.Kind.{Kind}
 use Rattle.sheet_format.specs.declared.Kind.the-variants as kind
-
-clash : {A : Type 0} → false ≡ true → A
-clash h = let z : _≡_ {A = ℕ} 0 1 = cc in absurd (omega arith)
 
 pub and-left : (a b : Bool) → a && b ≡ true → a ≡ true
 and-left true b h = refl

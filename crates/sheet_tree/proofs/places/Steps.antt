@@ -23,7 +23,7 @@ use Rattle.sheet_calls.proofs.Inserts.{passes-at}
 use Rattle.sheet_format.specs.Told.{rowsOf, rowAt}
 use Rattle.sheet_laws.specs.Built.{treeUpTo}
 use Rattle.sheet_laws.proofs.Tree.{insert-accepted, insert-next}
-use Rattle.sheet_laws.proofs.Tables.{rows-many, rows-at}
+use Rattle.sheet_format.proofs.Tables.{rows-length, row-at}
 use Rattle.sheet_tree.specs.arguments.Clips.{ClipsRanged}
 use Rattle.sheet_tree.specs.places.Rows.{sheetOf}
 
@@ -45,23 +45,23 @@ pub record Accepted (t : Tree) (p : PlaceLine) (c : Clip) : Type 0 where
 
 module _ (places : List ℤ) (n : ℕ) (clips : List ℤ) (m : ℕ) (g : Good (sheetOf places n clips m)) where
   pub few-places : n ≤ 256
-  few-places = omega (arith, g .few-places, rows-many placeWidth n places)
+  few-places = omega (arith, g .few-places, rows-length placeWidth n places)
 
   pub few-clips : m ≤ 256
-  few-clips = omega (arith, g .few-places, g .few-clips, rows-many placeWidth n places, rows-many clipWidth m clips)
+  few-clips = omega (arith, g .few-places, g .few-clips, rows-length placeWidth n places, rows-length clipWidth m clips)
 
   pub clips-ranged : ClipsRanged clips m
   clips-ranged i h =
       let rows = rowsOf clipWidth m clips in
-      let f = passes-at (clipRule (length (rowsOf placeWidth n places))) [] rows (g .clips) i (omega (arith, rows-many clipWidth m clips)) in
-      ap (λ (r : List ℤ). clipInRange (clipOf r)) (sym (rows-at clipWidth m clips i h)) ∙ f .ranged
+      let f = passes-at (clipRule (length (rowsOf placeWidth n places))) [] rows (g .clips) i (omega (arith, rows-length clipWidth m clips)) in
+      ap (λ (r : List ℤ). clipInRange (clipOf r)) (sym (row-at clipWidth m i clips h)) ∙ f .ranged
 
   module _ (i : ℕ) (h : i < n) where
     row : Fair placeRule (take i (rowsOf placeWidth n places)) (rowAt placeWidth i places)
-    row = subst (λ (r : List ℤ). Fair placeRule (take i (rowsOf placeWidth n places)) r) (rows-at placeWidth n places i h) (passes-at placeRule [] (rowsOf placeWidth n places) (g .places) i (omega (arith, rows-many placeWidth n places)))
+    row = subst (λ (r : List ℤ). Fair placeRule (take i (rowsOf placeWidth n places)) r) (row-at placeWidth n i places h) (passes-at placeRule [] (rowsOf placeWidth n places) (g .places) i (omega (arith, rows-length placeWidth n places)))
 
     low : i < length (rowsOf placeWidth n places)
-    low = omega (arith, rows-many placeWidth n places)
+    low = omega (arith, rows-length placeWidth n places)
 
     -- its insert is accepted
     pub place-accepted : Accepted (treeUpTo (sheetOf places n clips m) i) (placeOf (rowAt placeWidth i places)) (clipFor (rowsOf clipWidth m clips) (suc i))
@@ -74,7 +74,7 @@ module _ (places : List ℤ) (n : ℕ) (clips : List ℤ) (m : ℕ) (g : Good (s
           ranged = row .ranged;
           upward = t .0;
           earlier = omega (arith, t .1, l, few-places);
-          verdict = subst (λ (r : List ℤ). verdict (treeUpTo (sheetOf places n clips m) i) (insertOf (rowsOf clipWidth m clips) (suc i) (placeOf r)) ≡ is.Accepted) (rows-at placeWidth n places i h) (insert-accepted (sheetOf places n clips m) g i low);
+          verdict = subst (λ (r : List ℤ). verdict (treeUpTo (sheetOf places n clips m) i) (insertOf (rowsOf clipWidth m clips) (suc i) (placeOf r)) ≡ is.Accepted) (row-at placeWidth n i places h) (insert-accepted (sheetOf places n clips m) g i low);
         }
 
     -- and leaves the tree of one place more
@@ -82,4 +82,4 @@ module _ (places : List ℤ) (n : ℕ) (clips : List ℤ) (m : ℕ) (g : Good (s
         ≡ treeUpTo (sheetOf places n clips m) (suc i)
     unfolding accepted insertOf
     place-next =
-        sym (subst (λ (r : List ℤ). treeUpTo (sheetOf places n clips m) (suc i) ≡ accepted (treeUpTo (sheetOf places n clips m) i) (insertOf (rowsOf clipWidth m clips) (suc i) (placeOf r))) (rows-at placeWidth n places i h) (insert-next (sheetOf places n clips m) g i low))
+        sym (subst (λ (r : List ℤ). treeUpTo (sheetOf places n clips m) (suc i) ≡ accepted (treeUpTo (sheetOf places n clips m) i) (insertOf (rowsOf clipWidth m clips) (suc i) (placeOf r))) (row-at placeWidth n i places h) (insert-next (sheetOf places n clips m) g i low))

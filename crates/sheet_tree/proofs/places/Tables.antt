@@ -17,7 +17,8 @@ use Rattle.tree_state.specs.Lent as lent
 use Rattle.tree_state.specs.Tree.{freshTree}
 use Rattle.tree_state.specs.Sound.{soundTree}
 use Rattle.tree_steps.specs.Structure.{parentLive, insertVerdict, insertTree}
-use Rattle.tree_laws.proofs.Whole.{Whole, sized, whole-fresh}
+use Rattle.tree_laws.proofs.Whole.{sized, whole-fresh}
+use Rattle.tree_laws.specs.Whole.{Whole}
 use Rattle.tree_verdicts.proofs.nodes.Nodes.{Held, sound-held, live-node}
 use Rattle.tree_invariant.proofs.calls.Accepted.{insert-accepted}
 use Rattle.agreement_calls.proofs.Fresh.{sound-fresh}

@@ -6,7 +6,7 @@ use native.Mathlib.Omega.{arith}
 use lib.ListN.{length, take, getD}
 use lib.Ieee.{Float}
 use Rattle.index_types.specs.flat_tables.Tables.{boxAt}
-use Rattle.index_sound.proofs.Exact.{CountOf}
+use Rattle.index_sound.specs.Sound.{CountOf}
 use Rattle.index_entries.specs.Entries.{previousAt}
 use Rattle.index_commit.specs.declared.Change.{Change}
 use Rattle.index_commit.specs.Commit.{Act, drops, actOf, markStep, keptStep, freeStep, presentStep, boxesStep, changeOf, Work, workStep, work, start}

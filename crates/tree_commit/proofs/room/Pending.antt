@@ -8,14 +8,10 @@ use native.Mathlib.Omega.{arith}
 use lib.ListN.{length, getD, set, take, drop, length-append, length-drop}
 use lib.Seq.{length-take-le, take-add, take-suc, drop-cons, set-at, append-snoc}
 use lib.Ieee.{Float}
-use Rattle.geometry.specs.declared.rect.Rect.{Rect}
 use Rattle.index_types.specs.flat_tables.Stride.{segment}
 use Rattle.node_tables.specs.Tables.{ofRect, rectOf, rectAt}
 use Rattle.tree_steps.specs.Commit.{numbersOf, rectsOf, rectsInFront}
-
-numbers-append : (rs ss : List Rect) → numbersOf (rs ++ ss) ≡ numbersOf rs ++ numbersOf ss
-numbers-append [] ss = refl
-numbers-append (r ∷ rs) ss = rw (numbers-append rs ss)
+use Rattle.tree_rework.proofs.boxes.Rooms.{numbers-append}
 
 -- a rectangle's numbers are its segment of the table
 four : (v : List Float) → length v ≡ 4 → ofRect (rectOf v) ≡ v

@@ -18,17 +18,22 @@ use Rattle.tree_state.specs.Lent.{marks, pending, backend, index, tree}
 use Rattle.tree_state.specs.Tree.{needsCommit}
 use Rattle.tree_state.specs.Sound.{SoundTree, soundTree}
 use Rattle.tree_sound.proofs.Exact.{decides}
-use Rattle.tree_steps.specs.Commit.{visitsOf, begun, noMarks, finished, commitTree, rectsInFront}
-use Rattle.tree_laws.proofs.Whole.{Whole, WholeIndex, sized}
+use Rattle.tree_steps.specs.Commit.{Work, visitsOf, reworkAll, begun, noMarks, finished, commitTree, rectsInFront}
+use Rattle.tree_laws.proofs.Whole.{sized}
+use Rattle.tree_laws.specs.Whole.{Whole, WholeIndex}
 use Rattle.tree_visits.proofs.Whole.{front-take, seven, visits-lent}
 use Rattle.tree_rework.specs.preconditions.Fits.{Ready}
 use Rattle.tree_rework.proofs.boxes.Rooms.{front-length}
 use Rattle.tree_commit.specs.queue.Queue.{Left}
 use Rattle.tree_invariant.proofs.commit.Keep.{ready, index-ready}
 use Rattle.tree_commit.specs.declared.work.Done.{Done}
-use Rattle.tree_commit.specs.work.Done.{done, worked}
+use Rattle.tree_commit.specs.work.Done.{done}
 
 -- ---- the rework
+
+-- the tree and the damage once every position is reworked
+abbrev pub worked : Tree → Work
+worked t = reworkAll (begun t) (visitsOf t)
 
 pub sound-of : (t : Tree) → Whole t → soundTree t ≡ true → SoundTree t
 sound-of t W h = decides t (sized t W) .0 h

@@ -27,7 +27,7 @@ use Rattle.counting.proofs.Kit.{contra}
 use Rattle.link_forest.specs.Forest.{Forest, leaf, has, count}
 use Rattle.link_forest.proofs.Counting.{count-cat, count-under, tally-sym}
 use Rattle.link_forest.proofs.Rep.{rep-times}
-use Rattle.link_forest.proofs.Sound.{Sound}
+use Rattle.link_forest.specs.Sound.{Sound}
 use Rattle.link_table.specs.declared.Links.{Links}
 use Rattle.tree_state.specs.declared.Tree.{Tree}
 use Rattle.tree_state.specs.declared.Verdict.the-variants as is
@@ -36,7 +36,8 @@ use Rattle.tree_state.specs.Sound.{Live, SoundTree, committedNodes}
 use Rattle.tree_sound.proofs.Exact.{listed, live}
 use Rattle.tree_steps.specs.Setters.{markBoth}
 use Rattle.tree_steps.specs.Structure.{slotOf, generationOf, takeSlot, parentLive, linkNew, storeLocal, clearBoxes, withoutKey, insertVerdict, insertTree}
-use Rattle.tree_laws.proofs.Whole.{Whole, sized}
+use Rattle.tree_laws.proofs.Whole.{sized}
+use Rattle.tree_laws.specs.Whole.{Whole}
 use Rattle.tree_laws.proofs.Ground.{Linked, linked, live-has}
 use Rattle.plan.specs.Plan.{onto}
 use Rattle.tree_invariant.proofs.calls.Counts.{weight, weight-none, count-same}

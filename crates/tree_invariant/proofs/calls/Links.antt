@@ -20,7 +20,8 @@ use Rattle.link_forest.specs.Forest.{Forest, leaf, has, remove, part}
 use Rattle.link_forest.specs.Table.{cutOut}
 use Rattle.link_forest.proofs.Counting.{count-lacks}
 use Rattle.link_forest.proofs.Rep.{At, Segment, rep-times, rep-slot-at, rep-within, rep-after}
-use Rattle.link_forest.proofs.Sound.{Sound, sound-add-root, sound-add, sound-remove, sound-moved, sound-moved-root}
+use Rattle.link_forest.proofs.Sound.{sound-add-root, sound-add, sound-remove, sound-moved, sound-moved-root}
+use Rattle.link_forest.specs.Sound.{Sound}
 use Rattle.link_table.specs.Links as links
 use Rattle.link_table.specs.Links.{endOf, afterCut, splice, addRoot, addLast, cutTree, graft, graftLast, moveLast, moveRoot}
 use Rattle.link_table.proofs.Steps.{length-part}
@@ -31,7 +32,7 @@ use Rattle.tree_state.specs.declared.Verdict.the-variants as is
 use Rattle.tree_state.specs.Tree.{liveSlots, positionOf}
 use Rattle.tree_state.specs.Sound.{SoundTree}
 use Rattle.tree_steps.specs.Structure.{slotOf, parentLive, atOrBelow, insertVerdict, reparentVerdict, insertTree, reparentTree}
-use Rattle.tree_laws.proofs.Whole.{Whole}
+use Rattle.tree_laws.specs.Whole.{Whole}
 use Rattle.tree_laws.proofs.Ground.{Linked, at, live-has, slot-at-place, segment}
 use Rattle.plan.specs.Plan.{onto}
 use Rattle.tree_invariant.proofs.calls.Counts.{long}

@@ -1,6 +1,6 @@
 -- What is read of the local records after a store: the slot's own record with the new value, and any other as it was. And the tables' lengths.
 use mathlib.Core.Path.{_≡_, refl, ap, _∙_}
-use mathlib.Core.List.{List}
+use mathlib.Core.List.{List, [], _∷_}
 use Prim.Native.Nat.{ℕ, _+_, _*_, _≤_, _<_}
 use native.Mathlib.Omega.{arith}
 use lib.ListN.{length, getD, set, length-set}
@@ -22,7 +22,7 @@ use Rattle.tree_state.specs.Locals.{localIn}
 use Rattle.tree_state.specs.Tree.{localAt}
 use Rattle.tree_steps.specs.Setters.{storeTransform, storeClip, storeBounds, storeSlop, storeLevel, storeFlags}
 use Rattle.tree_steps.specs.Structure.{storeLocal}
-use Rattle.tree_laws.proofs.Whole.{WholeLocals}
+use Rattle.tree_laws.specs.Whole.{WholeLocals}
 
 pub local-is : (t : Tree) (x : ℕ) → localAt t x ≡ localIn (t .locals) x
 unfolding localAt
@@ -34,6 +34,27 @@ clip-here k l x c a b = ap (λ (m : ℕ). clipAt m (putClip l x c) x) (getD-set-
 
 clip-there : (k : List ℕ) (l : List Float) (x : ℕ) (c : Clip) (y : ℕ) → (y ≡ x → ⊥) → clipAt (getD (set k x (kindOf c)) y 0) (putClip l x c) y ≡ clipAt (getD k y 0) l y
 clip-there k l x c y n = ap (λ (m : ℕ). clipAt m (putClip l x c) y) (getD-set-other k x y (kindOf c) 0 n) ∙ clip-other l x c (getD k y 0) y n
+
+-- ---- tables of the same lengths
+
+abbrev lengths : Locals → List ℕ
+lengths m =
+    length (m .bounds) ∷ length (m .slop) ∷ length (m .transform) ∷ length (m .kind) ∷ length (m .clip) ∷ length (m .level) ∷ length (m .flags) ∷ []
+
+as-long : (m l : Locals) → lengths m ≡ lengths l → WholeLocals l → WholeLocals m
+as-long m l e w =
+    record {
+      bounds = at 0 ∙ w .bounds;
+      slop = at 1 ∙ w .slop;
+      transform = at 2 ∙ w .transform;
+      kind = at 3 ∙ w .kind;
+      clip = at 4 ∙ w .clip;
+      level = at 5 ∙ w .level;
+      flags = at 6 ∙ w .flags;
+    }
+  where
+    at : (k : ℕ) → getD (lengths m) k 0 ≡ getD (lengths l) k 0
+    at k = ap (λ (s : List ℕ). getD s k 0) e
 
 module _ (l : Locals) (x : ℕ) where
   -- ---- any other slot
@@ -99,31 +120,25 @@ module _ (l : Locals) (x : ℕ) where
   -- ---- lengths
   module _ (w : WholeLocals l) where
     pub whole-bounds : (r : Rect) → WholeLocals (storeBounds l x r)
-    whole-bounds r = record { bounds = rect-length (l .bounds) x r ∙ w .bounds; slop = w .slop; transform = w .transform; kind = w .kind; clip = w .clip; level = w .level; flags = w .flags }
+    whole-bounds r = as-long (storeBounds l x r) l (rw (rect-length (l .bounds) x r)) w
 
     pub whole-slop : (s : Insets) → WholeLocals (storeSlop l x s)
-    whole-slop s = record { bounds = w .bounds; slop = insets-length (l .slop) x s ∙ w .slop; transform = w .transform; kind = w .kind; clip = w .clip; level = w .level; flags = w .flags }
+    whole-slop s = as-long (storeSlop l x s) l (rw (insets-length (l .slop) x s)) w
 
     pub whole-transform : (a : Affine) → WholeLocals (storeTransform l x a)
-    whole-transform a = record { bounds = w .bounds; slop = w .slop; transform = affine-length (l .transform) x a ∙ w .transform; kind = w .kind; clip = w .clip; level = w .level; flags = w .flags }
+    whole-transform a = as-long (storeTransform l x a) l (rw (affine-length (l .transform) x a)) w
 
     pub whole-clip : (c : Clip) → WholeLocals (storeClip l x c)
-    whole-clip c = record { bounds = w .bounds; slop = w .slop; transform = w .transform; kind = length-set (l .kind) x (kindOf c) ∙ w .kind; clip = clip-length (l .clip) x c ∙ w .clip; level = w .level; flags = w .flags }
+    whole-clip c = as-long (storeClip l x c) l (rw (length-set (l .kind) x (kindOf c), clip-length (l .clip) x c)) w
 
     pub whole-level : (z : ℤ) → WholeLocals (storeLevel l x z)
-    whole-level z = record { bounds = w .bounds; slop = w .slop; transform = w .transform; kind = w .kind; clip = w .clip; level = length-set (l .level) x z ∙ w .level; flags = w .flags }
+    whole-level z = as-long (storeLevel l x z) l (rw (length-set (l .level) x z)) w
 
     pub whole-flags : (f : NodeFlags) → WholeLocals (storeFlags l x f)
-    whole-flags f = record { bounds = w .bounds; slop = w .slop; transform = w .transform; kind = w .kind; clip = w .clip; level = w .level; flags = length-set (l .flags) x (f .0) ∙ w .flags }
+    whole-flags f = as-long (storeFlags l x f) l (rw (length-set (l .flags) x (f .0))) w
 
     pub whole-local : (v : LocalNode) → WholeLocals (storeLocal l x v)
     whole-local v =
-        record {
-          bounds = rect-length (l .bounds) x (v .«local_bounds») ∙ w .bounds;
-          slop = insets-length (l .slop) x (v .«hit_slop») ∙ w .slop;
-          transform = affine-length (l .transform) x (v .«local_transform») ∙ w .transform;
-          kind = length-set (l .kind) x (kindOf (v .«local_clip»)) ∙ w .kind;
-          clip = clip-length (l .clip) x (v .«local_clip») ∙ w .clip;
-          level = length-set (l .level) x (v .«z_index») ∙ w .level;
-          flags = length-set (l .flags) x (v .flags .0) ∙ w .flags;
-        }
+        as-long (storeLocal l x v) l
+        (rw (rect-length (l .bounds) x (v .«local_bounds»), insets-length (l .slop) x (v .«hit_slop»), affine-length (l .transform) x (v .«local_transform»), length-set (l .kind) x (kindOf (v .«local_clip»)), clip-length (l .clip) x (v .«local_clip»), length-set (l .level) x (v .«z_index»), length-set (l .flags) x (v .flags .0)))
+        w

@@ -9,7 +9,7 @@ use lib.ListN.{length, getD, set, length-set}
 use lib.Seq.{getD-set-same, getD-set-other}
 use Rattle.tree_state.specs.declared.Marks.{Marks}
 use Rattle.tree_steps.specs.Setters.{markAlone, markTransform, markClip, markBoth}
-use Rattle.tree_laws.proofs.Whole.{WholeMarks}
+use Rattle.tree_laws.specs.Whole.{WholeMarks}
 
 -- m after a call that marks the slot x
 pub record Marking (l m : Marks) (x : ℕ) : Type 0 where

@@ -12,7 +12,7 @@ use Rattle.counting.specs.Times.{times}
 use Rattle.link_forest.specs.Forest.{Forest, has, count, remove, part}
 use Rattle.link_forest.proofs.Counting.{count-cat, count-under, count-parts, remove-has}
 use Rattle.link_forest.proofs.Rep.{rep-times}
-use Rattle.link_forest.proofs.Sound.{Sound}
+use Rattle.link_forest.specs.Sound.{Sound}
 use Rattle.link_table.specs.declared.Links.{Links}
 use Rattle.tree_state.specs.declared.Marks.{Marks}
 use Rattle.tree_state.specs.declared.Tree.{Tree}
@@ -22,7 +22,8 @@ use Rattle.tree_state.specs.Sound.{Live, SoundTree, committedNodes}
 use Rattle.tree_sound.proofs.Exact.{live-is, live-low}
 use Rattle.tree_steps.specs.Setters.{markBoth}
 use Rattle.tree_steps.specs.Structure.{parentLive, atOrBelow, moveLinks, reparentVerdict, reparentTree}
-use Rattle.tree_laws.proofs.Whole.{Whole, WholeMarks, sized}
+use Rattle.tree_laws.proofs.Whole.{sized}
+use Rattle.tree_laws.specs.Whole.{Whole, WholeMarks}
 use Rattle.tree_laws.proofs.Ground.{Linked, linked, live-has, below-by-places}
 use Rattle.plan.specs.Plan.{onto}
 use Rattle.tree_invariant.proofs.calls.Counts.{weight, count-same}

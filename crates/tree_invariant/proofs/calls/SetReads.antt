@@ -23,7 +23,7 @@ use Rattle.tree_state.specs.declared.Marks.{Marks}
 use Rattle.tree_state.specs.declared.Tree.{Tree}
 use Rattle.tree_state.specs.Tree.{localAt, markedAt, transformChangedAt, clipChangedAt}
 use Rattle.tree_steps.specs.Setters.{withLocals, unless, markAlone, markTransform, markClip, storeTransform, storeClip, storeBounds, storeSlop, storeLevel, storeFlags, setTransform, setClip, setBounds, setSlop, setLevel, setFlags}
-use Rattle.tree_laws.proofs.Whole.{Whole}
+use Rattle.tree_laws.specs.Whole.{Whole}
 use Rattle.tree_state.specs.Locals.{localIn}
 use Rattle.tree_invariant.proofs.calls.Locals.{local-is, transform-here, transform-other, clip-here-slot, clip-other-slot, bounds-here, bounds-other, slop-here, slop-other, level-here, level-other, flags-here, flags-other}
 use Rattle.tree_invariant.proofs.calls.Marks.{alone, in-transform, in-clip}

@@ -27,7 +27,8 @@ use Rattle.tree_state.specs.Tree.{clipOf}
 use Rattle.tree_state.specs.Sound.{Live, SoundTree}
 use Rattle.tree_sound.proofs.Exact.{live-low}
 use Rattle.tree_steps.specs.Setters.{ofNode, treeIf, withLocals, unless, markAlone, markTransform, markClip, storeTransform, storeClip, storeBounds, storeSlop, storeLevel, storeFlags, setTransform, setClip, setBounds, setSlop, setLevel, setFlags, transformVerdict, clipVerdict, boundsVerdict, slopVerdict, flagsVerdict}
-use Rattle.tree_laws.proofs.Whole.{Whole, WholeLocals, WholeMarks, sized}
+use Rattle.tree_laws.proofs.Whole.{sized}
+use Rattle.tree_laws.specs.Whole.{Whole, WholeLocals, WholeMarks}
 use Rattle.tree_invariant.proofs.calls.Accepted.{checked-both, of-node, of-value}
 use Rattle.tree_invariant.proofs.calls.Nodes.{Good, good-of, Shape, Node, Kept, kept-node, assemble, good-bounds, good-slop, good-transform, good-clip, good-level, good-flags}
 use Rattle.tree_state.specs.Locals.{localIn}

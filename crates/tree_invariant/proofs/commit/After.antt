@@ -15,21 +15,13 @@ use Rattle.link_forest.proofs.Counting.{has-count}
 use Rattle.link_forest.proofs.Rep.{rep-times}
 use Rattle.tree_state.specs.declared.Tree.{Tree}
 use Rattle.tree_state.specs.Tree.{liveSlots, markedAt, transformChangedAt, clipChangedAt, committedAt, entryMark, isRemoved, some, anyOf, needsCommit}
-use Rattle.tree_state.specs.Sound.{SoundTree, Live, countBelow, removedEntries}
-use Rattle.tree_laws.proofs.Whole.{Whole}
+use Rattle.tree_state.specs.Sound.{SoundTree, Live, countBelow}
+use Rattle.tree_laws.specs.Whole.{Whole}
 use Rattle.tree_laws.proofs.Ground.{Linked, linked, live-has}
 use Rattle.tree_steps.specs.Commit.{visitsOf, reworkAll, begun, noMarks, finished, workFor, commitTree}
-use Rattle.agreement.proofs.worlds.Sound.{Finished}
-use Rattle.tree_invariant.proofs.commit.Finish.{no-mark, none-removed}
+use Rattle.agreement.proofs.worlds.Sound.{Finished, no-mark, none-removed}
+use Rattle.tree_invariant.specs.commit.Calm.{Calm}
 use Rattle.tree_invariant.proofs.commit.Keep.{finished-in, keep-commit}
-
-pub record Calm (t : Tree) : Type 0 where
-  pub no-need : needsCommit t ≡ false
-  pub unmarked : (x : ℕ) → Live t x → markedAt t x ≡ false
-  pub transform-same : (x : ℕ) → Live t x → transformChangedAt t x ≡ false
-  pub clip-same : (x : ℕ) → Live t x → clipChangedAt t x ≡ false
-  pub none-removed : removedEntries t ≡ 0
-  pub none-pending : t .pending .count ≡ 0
 
 -- ---- tests over a list and over the numbers below a bound
 none-any : (p : ℕ → Bool) (l : List ℕ) → ((y : ℕ) → p y ≡ false) → anyOf p l ≡ false

@@ -26,7 +26,7 @@ use Rattle.tree_state.specs.declared.Tree.{Tree}
 use Rattle.tree_state.specs.Tree.{committedAt}
 use Rattle.tree_state.specs.Tree as tree
 use Rattle.tree_state.specs.Sound.{SoundTree}
-use Rattle.tree_laws.proofs.Whole.{Whole, WholeKeys, WholeIndex}
+use Rattle.tree_laws.specs.Whole.{Whole, WholeKeys, WholeIndex}
 use Rattle.tree_laws.proofs.Ground.{Linked, live-has}
 use Rattle.tree_steps.specs.Commit.{enterKeys, enterIndex}
 use Rattle.agreement.proofs.worlds.Keyed.{Committed, entry, whole-insert, whole-update}

@@ -14,26 +14,22 @@ use Rattle.tree_state.specs.declared.Pending.{Pending}
 use Rattle.tree_state.specs.declared.Tree.{Tree}
 use Rattle.tree_state.specs.Tree.{liveSlots, committedAt, keyAt, storedBounds, entryMark, needsCommit}
 use Rattle.tree_state.specs.Sound.{SoundTree, Owns, Live, countOf, committedNodes}
-use Rattle.tree_laws.proofs.Whole.{Whole, WholeSlots, WholeLinks, WholeLocals, WholeIndex}
+use Rattle.tree_laws.specs.Whole.{Whole, WholeSlots, WholeLinks, WholeLocals, WholeIndex}
 use Rattle.tree_laws.proofs.Ground.{Linked, linked, live-has}
 use Rattle.tree_steps.specs.Commit.{visitsOf, reworkAll, begun, finished, workFor, commitTree}
 use Rattle.tree_rework.specs.preconditions.Fits.{Ready}
 use Rattle.tree_visits.proofs.Parents.{slotsAt}
 use Rattle.tree_visits.proofs.Laws.{visits-low, visits-few}
 use Rattle.tree_visits.proofs.Slots.{slots-once, slots-cover}
+use Rattle.tree_visits.proofs.Cover.{none-of}
 use Rattle.tree_invariant.proofs.remove.Fold.{no-area}
 use Rattle.agreement.proofs.worlds.Room.{few-entries}
 use Rattle.agreement.proofs.worlds.Fold.{Frame}
-use Rattle.agreement.proofs.worlds.Sound.{Finished, after-low, after-stays, after-from, after-sound}
+use Rattle.agreement.proofs.worlds.Sound.{Finished, after-low, after-stays, after-from, after-sound, no-mark, finished-sound}
 use Rattle.tree_invariant.proofs.commit.Filed.{FiledTree, filed-sound}
 use Rattle.tree_invariant.proofs.commit.Turn.{Before}
 use Rattle.tree_invariant.proofs.commit.Fold.{all-fit, all-done, all-stay, all-committed, all-frame}
-use Rattle.tree_invariant.proofs.commit.Finish.{no-mark, finished-sound}
 use Rattle.tree_invariant.proofs.commit.Sizes.{whole-commit, count-more, length-rects}
-
-none-of : (b : Bool) → (b ≡ true → ⊥) → b ≡ false
-none-of true n = absurd (n refl)
-none-of false n = refl
 
 -- ---- before the first turn
 module _ (t : Tree) (f : Forest) (W : Whole t) (S : SoundTree t) (L : Linked t f) where

@@ -13,14 +13,15 @@ use Rattle.index_types.specs.flat_tables.Tables.{boxAt}
 use Rattle.index_types.proofs.flat_tables.Laws.{box-length}
 use Rattle.counting.specs.Times.{tally, times}
 use Rattle.counting.proofs.Counting.{hit, miss}
-use Rattle.index_commit.specs.Commit.{Act, rests, adds, moves, drops, actOf, keptStep, presentStep, boxesStep, Work, start, work, workStep}
+use Rattle.index_commit.specs.Commit.{Act, rests, adds, moves, drops, actOf, presentStep, boxesStep, Work, start, work, workStep}
 use Rattle.index_commit.proofs.Keep.{commit-whole}
 use Rattle.index_state.specs.declared.Index.{Index}
 use Rattle.index_state.specs.Index.{workOf, commitOf}
 use Rattle.index_state.proofs.Soundness.{Counts}
 use Rattle.tree_state.specs.Sound.{countOf}
 use Rattle.tree_steps.specs.Commit.{rectsOf}
-use Rattle.tree_laws.proofs.Whole.{WholeIndex}
+use Rattle.tree_laws.specs.Whole.{WholeIndex}
+use Rattle.agreement.proofs.worlds.Left.{kept-step}
 
 -- ---- the index's commit
 
@@ -28,12 +29,6 @@ pub record Sized (w r : Work) : Type 0 where
   pub kept : length (r .kept) ≡ length (w .kept)
   pub present : length (r .present) ≡ length (w .present)
   pub boxes : length (r .boxes) ≡ length (w .boxes)
-
-kept-step : (a : Act) (kept : List ℕ) (x : ℕ) → length (keptStep a kept x) ≡ length kept
-kept-step rests kept x = refl
-kept-step adds kept x = refl
-kept-step moves kept x = length-set kept x 0
-kept-step drops kept x = refl
 
 present-step : (a : Act) (present : List ℕ) (x : ℕ) → length (presentStep a present x) ≡ length present
 present-step rests present x = refl

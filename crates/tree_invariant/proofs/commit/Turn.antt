@@ -24,7 +24,7 @@ use Rattle.tree_worlds.specs.declared.Placed.{Placed}
 use Rattle.tree_state.specs.declared.Tree.{Tree}
 use Rattle.tree_state.specs.Tree.{committedAt, keyAt, entryMark, storedBounds, storedHitBounds}
 use Rattle.tree_state.specs.Sound.{countOf}
-use Rattle.tree_laws.proofs.Whole.{WholeWorlds}
+use Rattle.tree_laws.specs.Whole.{WholeWorlds}
 use Rattle.tree_laws.proofs.Ground.{Linked, small, low, slot-live}
 use Rattle.tree_steps.specs.Commit.{Work, damageOf, enterIndex, newPlace, newBounds, newHitBounds, rework}
 use Rattle.tree_rework.specs.preconditions.Fits.{Fits}

@@ -13,7 +13,7 @@ use Rattle.index_types.specs.declared.NodeId.{NodeId}
 use Rattle.link_forest.specs.Forest.{has, above, remove}
 use Rattle.link_forest.proofs.Holds.{above-remove}
 use Rattle.index_sound.proofs.Exact.{counted}
-use Rattle.index_commit.proofs.Agree.{unseen}
+use Rattle.index_commit.specs.Agree.{unseen}
 use Rattle.geometry.specs.declared.rect.Rect.{Rect}
 use Rattle.index_types.specs.flat_tables.Tables.{boxAt}
 use Rattle.tree_worlds.specs.declared.Placed.{Placed}
@@ -24,15 +24,18 @@ use Rattle.tree_state.specs.declared.Verdict.the-variants as is
 use Rattle.tree_state.specs.Tree.{positionOf, localAt, keyAt, entryMark, isRemoved}
 use Rattle.tree_steps.specs.Setters.{ofNode}
 use Rattle.tree_steps.specs.Structure.{removeTree}
-use Rattle.tree_laws.proofs.Whole.{Whole}
+use Rattle.tree_laws.specs.Whole.{Whole}
 use Rattle.tree_laws.proofs.Ground.{live-has}
 use Rattle.plan.specs.Lists.{any, joined}
 use Rattle.plan.specs.Plan.{Plan, numbers, removed}
 use Rattle.plan.specs.Visits.{countsAsChanged}
 use Rattle.plan.specs.Afresh.{placedOn, worldPlace, worldBounds, worldHitBounds}
-use Rattle.agreement.proofs.Same.{entryOf, Same, Alike, Settled, Right, Queued, Backed, Known}
+use Rattle.agreement.proofs.Same.{Same, Settled, Right, Queued, Backed, Known}
+use Rattle.agreement.specs.Afresh.{Alike}
+use Rattle.agreement.specs.Read.{entryOf}
 use Rattle.tree_invariant.proofs.remove.Counts.{joined-same, reverse-append}
-use Rattle.tree_invariant.proofs.remove.Entries.{Plain, mark-stays, mark-removed, queued-keys}
+use Rattle.tree_invariant.proofs.remove.Entries.{mark-stays, mark-removed, queued-keys}
+use Rattle.tree_invariant.specs.remove.Removals.{Plain}
 use Rattle.tree_invariant.proofs.remove.Keep as kept
 use Rattle.tree_invariant.proofs.remove.Keep.{node-live}
 

@@ -15,7 +15,8 @@ use Rattle.link_forest.proofs.Clauses.{Stands, here, down, right, stands, remov
 use Rattle.tree_state.specs.Sound.{countOf, countBelow}
 use Rattle.plan.specs.Plan.{numbers}
 use Rattle.plan.specs.Lists.{joined}
-use Rattle.agreement.proofs.Same.{entryIf}
+use Rattle.agreement.specs.Read.{entryIf}
+use Rattle.tree_invariant.specs.remove.Removals.{keysOf}
 
 -- ---- how many of a list pass a test
 
@@ -80,9 +81,6 @@ joined-same g h [] e = refl
 joined-same g h (x ∷ l) e = rw (e x (omega (arith, hit x)), joined-same g h l (λ y n. e y (omega arith)))
 
 -- the entry numbers of those that have one: a test and a number for each
-abbrev pub keysOf : (ℕ → Bool) → (ℕ → ℕ) → List ℕ → List ℕ
-keysOf c s l = joined (λ y. numbers (entryIf (c y) (s y))) l
-
 module _ (c : ℕ → Bool) (s : ℕ → ℕ) where
   pub keys-length : (l : List ℕ) → length (keysOf c s l) ≡ countOf c l
   unfolding joined countOf

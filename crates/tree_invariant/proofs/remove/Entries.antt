@@ -13,7 +13,7 @@ use lib.Seq.{getD-set-same, getD-set-other, take-suc-set, append-snoc}
 use Rattle.numbers.proofs.Bools.{split}
 use Rattle.counting.specs.Times.{tally, times}
 use Rattle.counting.proofs.Counting.{hit, miss, times-put}
-use Rattle.index_sound.proofs.Exact.{CountOf}
+use Rattle.index_sound.specs.Sound.{CountOf}
 use Rattle.index_entries.specs.declared.reads.Mark.{Mark}
 use Rattle.index_entries.specs.declared.reads.Mark.the-variants as is
 use Rattle.index_entries.specs.Entries.{stands, queueWith, lengthWith, markOf, unmarked, added, removedMark}
@@ -23,21 +23,10 @@ use Rattle.index_state.specs.declared.Index.{Index}
 use Rattle.index_state.specs.Index.{removeOf}
 use Rattle.tree_state.specs.Tree.{isRemoved}
 use Rattle.tree_state.specs.Sound.{countBelow}
+use Rattle.tree_invariant.specs.remove.Removals.{Plain, marksAll, queueAll, lengthAll}
 use Rattle.tree_invariant.proofs.remove.Counts.{below-more}
 
 -- ---- the tables after it
-
-abbrev pub marksAll : List ℕ → List ℕ → List ℕ
-marksAll mark [] = mark
-marksAll mark (k ∷ ks) = marksAll (set mark k 4) ks
-
-abbrev pub queueAll : List ℕ → ℕ → List ℕ → List ℕ
-queueAll dirty n [] = dirty
-queueAll dirty n (k ∷ ks) = queueAll (queueWith dirty n k) (lengthWith dirty n k) ks
-
-abbrev pub lengthAll : List ℕ → ℕ → List ℕ → ℕ
-lengthAll dirty n [] = n
-lengthAll dirty n (k ∷ ks) = lengthAll (queueWith dirty n k) (lengthWith dirty n k) ks
 
 abbrev pub removeKeys : Index → List ℕ → Index
 removeKeys ix [] = ix
@@ -61,11 +50,6 @@ withoutKeys ix ks =
     }
 
 -- ---- each is an entry without a mark, none twice
-
-pub record Plain (mark ks : List ℕ) : Type 0 where
-  pub low : (k : ℕ) → 1 ≤ times k ks → k < 512
-  pub unmarked : (k : ℕ) → 1 ≤ times k ks → getD mark k 0 ≡ 1
-  pub once : (k : ℕ) → times k ks ≤ 1
 
 module _ (mark : List ℕ) (k : ℕ) (ks : List ℕ) (P : Plain mark (k ∷ ks)) where
   pub first-low : k < 512

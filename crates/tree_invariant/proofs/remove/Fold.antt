@@ -28,9 +28,9 @@ use Rattle.tree_state.specs.Sound.{countOf}
 use Rattle.tree_steps.specs.Structure.{pushRect, removeEntry, freeSlot, removeAll, withLinks}
 use Rattle.plan.specs.Lists.{joined}
 use Rattle.plan.specs.Plan.{numbers}
-use Rattle.agreement.proofs.Same.{entryIf}
-use Rattle.tree_invariant.proofs.remove.Counts.{keysOf}
-use Rattle.tree_invariant.proofs.remove.Entries.{Plain, removeKeys, withoutKeys, remove-keys}
+use Rattle.agreement.specs.Read.{entryIf}
+use Rattle.tree_invariant.specs.remove.Removals.{pendingAll, Plain, keysOf}
+use Rattle.tree_invariant.proofs.remove.Entries.{removeKeys, withoutKeys, remove-keys}
 
 -- ---- slots
 
@@ -50,15 +50,11 @@ free-all s (x ∷ xs) =
 
 -- ---- pending rectangles
 
-abbrev pub pendingAll : List Float → Pending → List ℕ → Pending
-pendingAll bounds p [] = p
-pendingAll bounds p (x ∷ xs) = pendingAll bounds (pushRect (hasArea (rectAt bounds x)) p (rectAt bounds x)) xs
-
 push-length : (b : Bool) (p : Pending) (r : Rect) → length (pushRect b p r .rects) ≡ length (p .rects)
 push-length true p r = rect-length (p .rects) (p .count) r
 push-length false p r = refl
 
-push-count : (b : Bool) (p : Pending) (r : Rect) → pushRect b p r .count ≡ p .count + tally b
+pub push-count : (b : Bool) (p : Pending) (r : Rect) → pushRect b p r .count ≡ p .count + tally b
 push-count true p r = refl
 push-count false p r = omega arith
 

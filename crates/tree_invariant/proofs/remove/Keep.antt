@@ -32,10 +32,11 @@ use Rattle.tree_state.specs.Tree.{liveSlots, positionOf, isLive, localAt, commi
 use Rattle.tree_state.specs.Sound.{Live, Owns, SoundTree, countOf, ownerOf, removedEntries, committedNodes}
 use Rattle.tree_steps.specs.Setters.{held, ofNode}
 use Rattle.tree_steps.specs.Structure.{removeAll, withLinks, removeTree}
-use Rattle.tree_laws.proofs.Whole.{Whole}
+use Rattle.tree_laws.specs.Whole.{Whole}
 use Rattle.tree_laws.proofs.Ground.{Linked, linked, live-has, segment, subtree-post}
 use Rattle.tree_invariant.proofs.remove.Counts.{count-rest, count-fewer, keys-length, keys-has, keys-times, keys-owner, take-sets}
-use Rattle.tree_invariant.proofs.remove.Entries.{Plain, marks-length, mark-stays, mark-removed, removed-more, queue-length, keep-keys}
+use Rattle.tree_invariant.proofs.remove.Entries.{marks-length, mark-stays, mark-removed, removed-more, queue-length, keep-keys}
+use Rattle.tree_invariant.specs.remove.Removals.{Plain}
 use Rattle.tree_invariant.proofs.remove.Fold.{pending-length, pending-count, no-area, goneKeys, left, removes}
 
 -- ---- a node of the forest that a sound tree's links are

@@ -8,6 +8,7 @@ use native.Mathlib.Omega.{arith}
 use lib.ListN.{length, take, drop, getD, set, length-set}
 use lib.Seq.{sets, drop-cons, drop-length, getD-take, length-take-le}
 use lib.Ieee.{Float}
+use Rattle.tree_invariant.proofs.remove.Fold.{push-count}
 use Rattle.counting.specs.Times.{tally, times}
 use Rattle.counting.proofs.Counting.{hit}
 use Rattle.geometry.specs.declared.rect.Rect.{Rect}
@@ -16,18 +17,18 @@ use Rattle.index_types.specs.declared.Key.{Key}
 use Rattle.node_tables.specs.Tables.{rectAt}
 use Rattle.index_entries.specs.Entries.{queueWith, lengthWith}
 use Rattle.index_entries.proofs.Keep.{queue-of, queue-room}
-use Rattle.index_sound.proofs.Exact.{CountOf}
+use Rattle.index_sound.specs.Sound.{CountOf}
 use Rattle.tree_state.specs.declared.Pending.{Pending}
 use Rattle.tree_state.specs.Lent as lent
 use Rattle.tree_state.specs.Sound.{countOf}
 use Rattle.tree_steps.specs.Structure.{pushRect}
 use Rattle.plan.specs.Lists.{joined}
 use Rattle.plan.specs.Plan.{numbers}
-use Rattle.agreement.proofs.Same.{entryIf}
-use Rattle.tree_invariant.proofs.remove.Entries.{Plain, marksAll, queueAll, lengthAll, first-low, first-unmarked, plain-next, queue-length, keep-keys}
+use Rattle.agreement.specs.Read.{entryIf}
+use Rattle.tree_invariant.proofs.remove.Entries.{first-low, first-unmarked, plain-next, queue-length, keep-keys}
+use Rattle.tree_invariant.specs.remove.Removals.{Plain, marksAll, queueAll, lengthAll}
 use Rattle.tree_remove.specs.steps.Node.{Owned}
 use Rattle.tree_remove.specs.nodes.Remove.{pendingAll, keysIn, Marked, Ready}
-use Rattle.tree_remove.proofs.steps.Steps.{push-count}
 
 -- ---- entries: one more node, which has one if b says so
 

@@ -3,11 +3,9 @@ use mathlib.Core.Path.{_≡_, refl, ap, _∙_}
 use mathlib.Core.Bool.{Bool, true, false, cond}
 use mathlib.Core.List.{List}
 use Prim.Native.Nat.{ℕ, _+_}
-use native.Mathlib.Omega.{arith}
 use borrow.Author.Tests.{lt-ltb, eq-eqb}
 use lib.ListN.{getD, set}
 use lib.Ieee.{Float}
-use Rattle.counting.specs.Times.{tally}
 use Rattle.counting.proofs.Kit.{contra}
 use Rattle.geometry.specs.declared.rect.Rect.{Rect}
 use Rattle.geometry.specs.Rectangle.{hasArea}
@@ -19,7 +17,6 @@ use Rattle.index_entries.specs.declared.reads.Mark.{Mark}
 use Rattle.index_entries.specs.declared.reads.Mark.the-variants as is
 use Rattle.index_entries.specs.Entries.{queueWith, lengthWith, markOf, liveKey, lookUp, unmarked, added, removedMark}
 use Rattle.index_entries.proofs.Found.{look-live, look-dead}
-use Rattle.tree_state.specs.declared.Pending.{Pending}
 use Rattle.tree_state.specs.Lent.{pending}
 use Rattle.tree_steps.specs.Structure.{pushRect}
 use Rattle.tree_remove.specs.steps.Node.{Owned}
@@ -32,10 +29,6 @@ module _ (rects : List Float) (n : ℕ) (r : Rect) where
 
   pub not-pushed : hasArea r ≡ false → pending rects n ≡ pushRect (hasArea r) (pending rects n) r
   not-pushed h = rw h
-
-pub push-count : (b : Bool) (p : Pending) (r : Rect) → pushRect b p r .count ≡ p .count + tally b
-push-count true p r = refl
-push-count false p r = omega arith
 
 -- ---- the entry under a key
 

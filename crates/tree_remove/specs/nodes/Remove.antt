@@ -8,20 +8,14 @@ use lib.Ieee.{Float}
 use Rattle.counting.specs.Times.{times}
 use Rattle.geometry.specs.Rectangle.{hasArea}
 use Rattle.node_tables.specs.Tables.{rectAt}
-use Rattle.index_sound.proofs.Exact.{CountOf}
-use Rattle.tree_state.specs.declared.Pending.{Pending}
+use Rattle.index_sound.specs.Sound.{CountOf}
 use Rattle.tree_state.specs.Sound.{countOf}
-use Rattle.tree_invariant.proofs.remove.Counts as keys
-use Rattle.tree_invariant.proofs.remove.Entries.{Plain, marksAll, queueAll, lengthAll}
-use Rattle.tree_invariant.proofs.remove.Fold as fold
-
--- the boxes of these slots, one after the other, each if it has area
-abbrev pub pendingAll : List Float → Pending → List ℕ → Pending
-pendingAll bounds p xs = fold.pendingAll bounds p xs
+use Rattle.tree_invariant.specs.remove.Removals.{Plain, keysOf, marksAll, queueAll, lengthAll}
+pub use Rattle.tree_invariant.specs.remove.Removals.{pendingAll}
 
 -- the entries of the committed ones among these slots
 abbrev pub keysIn : List Bool → List ℕ → List ℕ → List ℕ
-keysIn committed slot xs = keys.keysOf (λ y. getD committed y false) (λ y. getD slot y 0) xs
+keysIn committed slot xs = keysOf (λ y. getD committed y false) (λ y. getD slot y 0) xs
 
 -- each of them marked removed and queued
 pub record Marked (ks mark dirty : List ℕ) (queued : ℕ) (mark' dirty' : List ℕ) (queued' : ℕ) : Type 0 where

@@ -69,7 +69,7 @@ numbers-length : (rs : List Rect) → length (numbersOf rs) ≡ 4 * length rs
 numbers-length [] = refl
 numbers-length (r ∷ rs) = rw (length-append (ofRect r) (numbersOf rs), numbers-length rs, mul-suc 4 (length rs)) (omega arith)
 
-numbers-append : (rs ss : List Rect) → numbersOf (rs ++ ss) ≡ numbersOf rs ++ numbersOf ss
+pub numbers-append : (rs ss : List Rect) → numbersOf (rs ++ ss) ≡ numbersOf rs ++ numbersOf ss
 numbers-append [] ss = refl
 numbers-append (r ∷ rs) ss = rw (numbers-append rs ss)
 

@@ -3,27 +3,20 @@ use Prim.Native.Nat.{ℕ, _-_}
 use mathlib.Core.Path.{_≡_, refl, ap, _∙_}
 use mathlib.Core.Bool.{Bool, true, false, cond}
 use mathlib.Core.List.{List}
-use lib.ListN.{length, set, length-set}
+use lib.ListN.{length, set}
 use lib.Ieee.{Float}
 use Rattle.index_types.specs.declared.Aabb2D.{Aabb2D}
 use Rattle.index_types.specs.declared.NodeId.{NodeId}
 use Rattle.index_types.specs.flat_tables.Tables.{putBox, putId}
 use Rattle.index_entries.specs.declared.reads.Entry.{Entry}
-use Rattle.index_entries.specs.Entries.{stands, queueWith, lengthWith, slotFor, usedFor, generationFor, entryAt, unmarked, updatedMark}
+use Rattle.index_entries.specs.Entries.{queueWith, lengthWith, slotFor, usedFor, generationFor, entryAt, unmarked, updatedMark}
 use Rattle.index_state.specs.declared.Index.{Index}
+use Rattle.index_state.proofs.Soundness.{queue-length}
 use Rattle.tree_state.specs.declared.Keys.{Keys}
 use Rattle.tree_state.specs.Lent as lent
 use Rattle.tree_rework.specs.entries.Enter.{enterIndex, enterKeys}
 
 -- ---- the queue keeps its length
-
-pub queue-length : (dirty : List ℕ) (n x : ℕ) → length (queueWith dirty n x) ≡ length dirty
-unfolding queueWith
-queue-length dirty n x = go (stands x dirty n)
-  where
-    go : (b : Bool) → length (cond b dirty (set dirty n x)) ≡ length dirty
-    go true = refl
-    go false = length-set dirty n x
 
 queue-length-if : (u : Bool) (dirty : List ℕ) (n x : ℕ) → length (cond u (queueWith dirty n x) dirty) ≡ length dirty
 queue-length-if true dirty n x = queue-length dirty n x

@@ -4,13 +4,13 @@ use mathlib.Core.Path.{_≡_, refl}
 use mathlib.Core.List.{List, [], _∷_}
 use Rattle.tree_state.specs.declared.Tree.{Tree}
 use Rattle.tree_steps.specs.Commit.{handedDown, ancestors}
-use Rattle.tree_rework.specs.worlds.Places.{above, handed}
+use Rattle.tree_rework.specs.worlds.Places.{aboveAt, handed}
 
 handed-same : (t : Tree) (qs : List ℕ) → handedDown t qs ≡ handed (t .worlds .transform) (t .worlds .clipped) (t .worlds .clip) qs
 unfolding handedDown handed
 handed-same t [] = refl
 handed-same t (q ∷ qs) = refl
 
-pub handed-down : (t : Tree) (i : ℕ) → handedDown t (ancestors t i) ≡ handed (t .worlds .transform) (t .worlds .clipped) (t .worlds .clip) (above (t .links .order) (t .links .depth) i)
+pub handed-down : (t : Tree) (i : ℕ) → handedDown t (ancestors t i) ≡ handed (t .worlds .transform) (t .worlds .clipped) (t .worlds .clip) (aboveAt (t .links .order) (t .links .depth) i)
 unfolding ancestors
-handed-down t i = handed-same t (above (t .links .order) (t .links .depth) i)
+handed-down t i = handed-same t (aboveAt (t .links .order) (t .links .depth) i)

@@ -12,7 +12,7 @@ use lib.Ieee.{Float}
 use Rattle.tree_worlds.specs.World.{atRoot}
 use Rattle.link_forest.specs.Table.{lastAbove, lessDeep}
 use Rattle.link_table.proofs.depths.Depths.{parent-stop, parent-on}
-use Rattle.tree_rework.specs.worlds.Places.{stored, handed, above}
+use Rattle.tree_rework.specs.worlds.Places.{stored, handed, aboveAt}
 
 -- one place more, the nearest first
 turned : (l : List ℕ) (j : ℕ) → suc j ≤ length l → reverse (take (suc j) l) ≡ getD l j 0 ∷ reverse (take j l)
@@ -60,5 +60,5 @@ module _ (transform : List Float) (clipped : List Bool) (clip : List Float) (ord
       ]
 
   pub found-above : (i : ℕ) → i ≤ length order → i ≤ length depth → ((m : ℕ) → m < i → getD order m 0 < 256)
-      → Tells transform clipped clip (lastAbove (getD depth i 0) 256 (take i order) (take i depth)) (above order depth i)
+      → Tells transform clipped clip (lastAbove (getD depth i 0) 256 (take i order) (take i depth)) (aboveAt order depth i)
   found-above i lo ld low = found (getD depth i 0) i lo ld low

@@ -7,7 +7,7 @@ use lib.Ieee.{Float}
 use Rattle.node_tables.specs.Tables.{affineAt, clipAt, clipRectAt}
 use Rattle.tree_worlds.specs.declared.Placed.{Placed}
 use Rattle.tree_worlds.specs.World.{atRoot, placed}
-pub use Rattle.link_forest.specs.Table.{above}
+pub use Rattle.link_forest.specs.Table.{aboveAt}
 
 -- what a slot hands down, as stored
 abbrev pub stored : List Float → List Bool → List Float → ℕ → Placed

@@ -4,23 +4,15 @@ use mathlib.Core.Bool.{Bool, true, false, _&&_}
 use mathlib.Core.List.{List, [], _∷_, reverse, reverse-append}
 use Prim.Native.Nat.{ℕ, suc, _-_, _≤_, _<_}
 use native.Mathlib.Omega.{arith}
-use borrow.Author.Tests.{lt-ltb, le-ltb}
 use lib.ListN.{length, getD, take}
 use lib.Seq.{take-suc}
 use Rattle.link_forest.specs.Table.{lessDeep}
+use Rattle.link_forest.proofs.Lists.{less-deep, not-less-deep}
 use Rattle.tree_state.specs.Sound.{everyOf}
 
 -- of the slots and depths of the first j places, those that are less deep than d, the nearest first
 abbrev pub back : ℕ → List ℕ → List ℕ → ℕ → List ℕ
 back d xs ds j = lessDeep d (reverse (take j xs)) (reverse (take j ds))
-
-less-here : (d x e : ℕ) (xs es : List ℕ) → e < d → lessDeep d (x ∷ xs) (e ∷ es) ≡ x ∷ lessDeep e xs es
-unfolding lessDeep
-less-here d x e xs es h = rw (lessDeep, lt-ltb e d h)
-
-less-past : (d x e : ℕ) (xs es : List ℕ) → d ≤ e → lessDeep d (x ∷ xs) (e ∷ es) ≡ lessDeep d xs es
-unfolding lessDeep
-less-past d x e xs es h = rw (lessDeep, le-ltb e d h)
 
 last-first : (l : List ℕ) (j : ℕ) → j < length l → reverse (take (suc j) l) ≡ getD l j 0 ∷ reverse (take j l)
 last-first l j h = ap reverse (take-suc l j 0 h) ∙ reverse-append (take j l) (getD l j 0 ∷ [])
@@ -31,10 +23,10 @@ back-none d xs ds = refl
 
 module _ (d j : ℕ) (xs ds : List ℕ) (lx : j < length xs) (ld : j < length ds) where
   pub back-here : getD ds j 0 < d → back d xs ds (suc j) ≡ getD xs j 0 ∷ back (getD ds j 0) xs ds j
-  back-here h = rw (last-first xs j lx, last-first ds j ld) (less-here d (getD xs j 0) (getD ds j 0) (reverse (take j xs)) (reverse (take j ds)) h)
+  back-here h = rw (last-first xs j lx, last-first ds j ld) (less-deep d (getD xs j 0) (getD ds j 0) (reverse (take j xs)) (reverse (take j ds)) h)
 
   pub back-past : d ≤ getD ds j 0 → back d xs ds (suc j) ≡ back d xs ds j
-  back-past h = rw (last-first xs j lx, last-first ds j ld) (less-past d (getD xs j 0) (getD ds j 0) (reverse (take j xs)) (reverse (take j ds)) h)
+  back-past h = rw (last-first xs j lx, last-first ds j ld) (not-less-deep d (getD xs j 0) (getD ds j 0) (reverse (take j xs)) (reverse (take j ds)) h)
 
 -- ---- a turn of a loop that goes back from the place j
 

@@ -12,7 +12,7 @@ use Rattle.tree_types.specs.declared.NodeFlags.{NodeFlags}
 use Rattle.tree_types.specs.Local as local
 use Rattle.node_tables.specs.Tables.{rectAt, insetsAt, affineAt, clipAt}
 use Rattle.link_forest.specs.Table.{indexOf}
-pub use Rattle.link_forest.specs.Table.{above}
+pub use Rattle.link_forest.specs.Table.{aboveAt}
 use Rattle.tree_state.specs.Sound.{everyOf}
 
 -- the mapped-back point is in the clip of one node
@@ -27,4 +27,4 @@ unfoldable pub fineAt : List ℕ → List Float → List Float → List ℕ → 
 fineAt flags bounds slop kind clip transform order depth count asked pt x =
     local.hasAll (local.flags (getD flags x 0)) asked
     && (reaches bounds slop kind clip transform pt x
-    && everyOf (clipHolds kind clip transform pt) (above order depth (indexOf x (take count order))))
+    && everyOf (clipHolds kind clip transform pt) (aboveAt order depth (indexOf x (take count order))))

@@ -7,7 +7,7 @@ use borrow.Author.Needs.{length-unmapped}
 use Rattle.tree_state.specs.declared.Tree.{Tree}
 use Rattle.tree_verdicts.proofs.nodes.Lengths as long
 use Rattle.tree_verdicts.proofs.nodes.Lengths.{Told}
-use Rattle.tree_laws.proofs.Whole.{Whole}
+use Rattle.tree_laws.specs.Whole.{Whole}
 
 module _ (t : Tree) (g : Told t) where
   present-long : length (t .index .backend .present) ≡ 512

@@ -9,7 +9,8 @@ use borrow.Author.Needs.{needs}
 use borrow.Author.Tests.{not-true, not-false}
 use Rattle.tree_state.specs.Tree.{needsCommit}
 use Rattle.tree_state.specs.Sound.{SoundTree}
-use Rattle.tree_laws.proofs.Whole.{Whole, sized}
+use Rattle.tree_laws.proofs.Whole.{sized}
+use Rattle.tree_laws.specs.Whole.{Whole}
 use Rattle.tree_laws.proofs.Ground.{linked}
 use Rattle.tree_verdicts.proofs.marks.Handed.{whole}
 use Rattle.tree_verdicts.proofs.need.Walks.{sound-places, sound-used}

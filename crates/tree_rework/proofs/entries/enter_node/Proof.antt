@@ -3,6 +3,7 @@ use mathlib.Core.Bool.{true, false}
 use native.Mathlib.Omega.{arith}
 use lib.ListN.{length, getD}
 use Prim.Native.Nat.{ℕ}
+use Rattle.index_state.proofs.Soundness.{queue-length}
 use Rattle.tree_rework.specs.entries.Enter.{key}
 use borrow.Author.Needs.{needs}
 use borrow.Author.Tests.{not-true, not-false}
@@ -11,7 +12,7 @@ use Rattle.index_state.specs.declared.Index.{Index}
 use Rattle.tree_state.specs.declared.Keys.{Keys}
 use Rattle.tree_state.specs.Lent as lent
 use Rattle.index_entries.proofs.Found.{look-live, look-dead, live-slot}
-use Rattle.tree_rework.proofs.entries.Enter.{queue-length, queue-whole, entered-new, keyed-new, keyed-old, entered-same, entered-other}
+use Rattle.tree_rework.proofs.entries.Enter.{queue-whole, entered-new, keyed-new, keyed-old, entered-same, entered-other}
 use Rattle.tree_rework.proofs.entries.enter_node.Statement.{statement}
 use Rattle.tree_rework.proofs.entries.enter_node.Tie as tie
 

@@ -3,14 +3,14 @@ use native.Mathlib.Omega.{arith}
 use lib.ListN.{length}
 use borrow.Author.Needs.{needs}
 use Prim.Native.Nat.{_≤_}
-use Rattle.tree_rework.specs.worlds.Places.{above}
+use Rattle.tree_rework.specs.worlds.Places.{aboveAt}
 use Rattle.tree_rework.proofs.worlds.Parents.{Tells, found-above}
 use Rattle.tree_rework.proofs.worlds.handed_down.Statement.{statement}
 use Rattle.tree_rework.proofs.worlds.handed_down.Tie as tie
 
 -- what the parent's number tells
 tells : (c : tie.After-parent-at) → let A = c .before .args in
-    Tells (A .transform .now) (A .clipped .now) (A .clip .now) (c .parent-at .result) (above (A .order .now) (A .depth .now) (A .at))
+    Tells (A .transform .now) (A .clipped .now) (A .clip .now) (c .parent-at .result) (aboveAt (A .order .now) (A .depth .now) (A .at))
 tells c =
     let A = c .before .args in
     let P = c .before .pre in

@@ -4,14 +4,14 @@ use Prim.Native.Nat.{_-_, _≤_, _<_}
 use lib.ListN.{length}
 use borrow.Author.Tests.{not-true, not-false}
 use Rattle.tree_state.specs.Sound.{everyOf}
-use Rattle.tree_taps.specs.fine.Fine.{clipHolds, above}
+use Rattle.tree_taps.specs.fine.Fine.{clipHolds, aboveAt}
 use Rattle.tree_taps.proofs.fine.Climb.{back, turn-past, every-stop, every-on, every-none}
 use borrow.Author.Needs.{needs}
 use Rattle.tree_taps.proofs.fine.in_clips.Statement.{statement}
 use Rattle.tree_taps.proofs.fine.in_clips.Tie as tie
 
 abbrev Inv-loop : tie.InvT-loop
-Inv-loop order depth at kind clip transform point d₀ j₀ d j = (j ≤ at) × (at < 256) × (everyOf (clipHolds kind clip transform point) (above order depth at) ≡ everyOf (clipHolds kind clip transform point) (back d order depth j))
+Inv-loop order depth at kind clip transform point d₀ j₀ d j = (j ≤ at) × (at < 256) × (everyOf (clipHolds kind clip transform point) (aboveAt order depth at) ≡ everyOf (clipHolds kind clip transform point) (back d order depth j))
 
 abbrev μ-loop : tie.MeasureT-loop
 μ-loop order depth at kind clip transform point d₀ j₀ d j = j

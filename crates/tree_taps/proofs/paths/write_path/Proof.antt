@@ -6,7 +6,7 @@ use lib.ListN.{length, getD}
 use Rattle.index_types.proofs.rooms.Rooms.{put-length}
 use Rattle.tree_steps.specs.Requests.{idsInFront}
 use Rattle.tree_verdicts.specs.nodes.Live.{idOf}
-use Rattle.tree_taps.specs.fine.Fine.{above}
+use Rattle.tree_taps.specs.fine.Fine.{aboveAt}
 use Rattle.tree_taps.specs.paths.Paths.{pathAt}
 use Rattle.tree_taps.proofs.paths.Climb.{back, deep-one, deep-most, path-turn, path-skip, path-ends}
 use borrow.Author.Needs.{needs}
@@ -14,7 +14,7 @@ use Rattle.tree_taps.proofs.paths.write_path.Statement.{statement}
 use Rattle.tree_taps.proofs.paths.write_path.Tie as tie
 
 abbrev Inv-loop : tie.InvT-loop
-Inv-loop order depth generation count x at room₀ len d₀ j₀ room d j = (j ≤ at) × (1 ≤ d) × (d ≤ getD depth j 0) × (length room ≡ length room₀) × (idsInFront (map (idOf generation) (reverse (back d order depth j))) room ≡ idsInFront (map (idOf generation) (reverse (above order depth at))) room₀)
+Inv-loop order depth generation count x at room₀ len d₀ j₀ room d j = (j ≤ at) × (1 ≤ d) × (d ≤ getD depth j 0) × (length room ≡ length room₀) × (idsInFront (map (idOf generation) (reverse (back d order depth j))) room ≡ idsInFront (map (idOf generation) (reverse (aboveAt order depth at))) room₀)
 
 abbrev μ-loop : tie.MeasureT-loop
 μ-loop order depth generation count x at room₀ len d₀ j₀ room d j = j

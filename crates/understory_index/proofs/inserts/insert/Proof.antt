@@ -7,7 +7,8 @@ use borrow.Author.Needs.{needs}
 use Rattle.index_state.proofs.Calls.{insert-done}
 use Rattle.index_state.specs.Index.{insertCall}
 use Rattle.index_entries.proofs.Keep.{queue-of, queue-room, slot-fits}
-use Rattle.index_sound.proofs.Exact.{CountOf, count-tells}
+use Rattle.index_sound.proofs.Exact.{count-tells}
+use Rattle.index_sound.specs.Sound.{CountOf}
 use Rattle.understory_index.proofs.inserts.insert.Statement.{statement}
 use Rattle.understory_index.proofs.inserts.insert.Tie as tie
 
