@@ -166,7 +166,8 @@ fn no_line(next: usize) -> LineRow
 // The line of `width` numbers that begins at `at`, and the position behind its LF. A line has its LF, and at most LINE_WIDTH numbers.
 pub fn fields_at(s: &[u8], at: usize, width: usize) -> LineRow
     ensures { λ r. ⌜
-        (toldLine width (now (s .entry)) r ≡ firstFields width (drop at (now (s .entry)))) × (r .next ≡ spec.behind at (spec.cut (drop at (now (s .entry))))) ⌝ }
+        (toldLine width (now (s .entry)) r ≡ firstFields width (drop at (now (s .entry))))
+        × (r .next ≡ spec.behind at (spec.cut (drop at (now (s .entry))))) ⌝ }
 {
     if at > s.len() {
         return no_line(at);

@@ -1,10 +1,8 @@
 -- The tree of what was read, refused or not. Assumes nothing.
 use mathlib.Core.Path.{_≡_, refl, sym, ap, _∙_, subst}
-use mathlib.Core.Bool.{false}
 use mathlib.Core.List.{List, []}
 use native.Mathlib.Omega.{arith}
 use Prim.Native.Nat.{ℕ}
-use lib.ListN.{length, take}
 use Rattle.sheet_format.specs.Sheet.{Sheet, Read, refused, sheet, readSheet}
 use Rattle.sheet_format.specs.Told.{toldAnswer, told, sheetOf, linesOf, Counted}
 use Rattle.sheet_format.specs.declared.Parsed.{Parsed}
@@ -22,7 +20,6 @@ use Rattle.sheet_laws.specs.Built.{treeUpTo, treeOf}
 use Rattle.sheet_laws.proofs.Tree.{commit-last}
 use Rattle.sheet_laws.proofs.Tables.{same-tree}
 use Rattle.sheet_tree.specs.places.Rows as rows
-use Rattle.sheet_tree.specs.declared.SheetTree.{SheetTree}
 use Rattle.sheet_tree.specs.Trees.{treeOn, Yields}
 
 -- the sheet without lines

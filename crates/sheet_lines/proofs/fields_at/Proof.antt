@@ -62,7 +62,7 @@ returns-4 c =
     let f = r .before .before .before .before in
     let A = f .before .before .before .args in (
       told (r .row-of .result .good) (take (A .width) (r .row-of .result .row)) (drop (f .find .result + 1) (A .s .now)) _ (r .row-of .ensures)
-      ∙ with-end (A .s .now) (A .at) (f .find .result) (A .width) (f .find .ensures .0) (r .before .before .before .if2 .left) (r .before .before .if3 .left),
+          ∙ with-end (A .s .now) (A .at) (f .find .result) (A .width) (f .find .ensures .0) (r .before .before .before .if2 .left) (r .before .before .if3 .left),
       passed (A .s .now) (A .at) (f .find .result) (A .width) (f .find .ensures .0) (r .before .before .before .if2 .left),
     )
 

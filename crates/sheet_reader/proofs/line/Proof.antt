@@ -40,10 +40,9 @@ use denote.Triple.Call.{calls-at}
 use denote.Triple.Entry.{Vals, onEntry}
 use denote.Triple.Spec.{Meets, tripleOf}
 use denote.Triple.Table.{entered, cited}
-use denote.Triple.Walked.{says, needs, Stays, stay-none, walkOf, goes-none, Walks, ends-at, walked, walk-meets}
+use denote.Triple.Walked.{says, Stays, stay-none, walkOf, goes-none, Walks, ends-at, walked, walk-meets}
 use denote.Exit.{yes}
 use denote.Triple.Clauses.{ensured, lasts}
-
 use Rattle.sheet_lines.specs.Lines.{cut, behind}
 use Rattle.sheet_lines.specs.Saturated.{toldLine, firstFields}
 use Rattle.sheet_lines.specs.declared.LineRow.{LineRow}

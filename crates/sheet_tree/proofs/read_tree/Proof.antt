@@ -1,5 +1,4 @@
 -- `sheet_tree::read_tree` meets its contract: the rows that were read are a good sheet's, or none. Assumes nothing.
-use borrow.Author.Needs.{needs}
 use Rattle.sheet_format.specs.Told.{sheetOf}
 use Rattle.sheet_laws.proofs.Tables.{good-untapped}
 use Rattle.sheet_tree.proofs.Trees.{good-rows, yields}
