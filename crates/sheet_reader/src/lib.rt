@@ -44,13 +44,11 @@ pub fn line<'a>(r: Reader<'a>, width: usize) -> ReadLine<'a>
     ensures { λ f. ⌜ (toldRead width f ≡ firstFields width (ahead (r .entry))) × (f .reader ≡ moved (r .entry)) ⌝ }
 {
     let f = sheet_lines::fields_at(r.src, r.at, width);
+    let at = f.next;
     ReadLine {
         good: f.good,
         row: f.row,
-        reader: Reader {
-            src: r.src,
-            at: f.next,
-        },
+        reader: Reader { src: r.src, at },
     }
 }
 

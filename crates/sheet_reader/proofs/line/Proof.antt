@@ -168,24 +168,25 @@ module _ {M : Type 1} (𝓤 : URA M) (H : Heap 𝓤) (A : Atoms 𝓤) (W : Given
     walk : Is (B (κ, tt)) d (mach ∷ []) → Holds (hasTy (T′.mir (named 0)) mach) × WT mach → i < 2 ^ 64 → ent 𝓤 (onEntry 𝓤 H A line.signature (κ, tt) (q, tt) (d, (i, tt)) at) (WpFn 𝓤 H C Λ code.function (mach ∷ vint w64 i ∷ []) Post)
     walk held wt gi =
         qed W (raw (onEntry 𝓤 H A line.signature (κ, tt) (q, tt) (d, (i, tt)) at) ∷ []) ∵ enter ! C Λ code.function (mach ∷ vint w64 i ∷ []) _ $
-        alloc1 ! (λ l₀. alloc1 ! (λ l₁. alloc1 ! (λ l₂. alloc1 ! (λ l₃. alloc1 ! (λ l₄. alloc1 ! (λ l₅. alloc1 ! (λ l₆. alloc1 ! (λ l₇. alloc0 ! $ params1 ! $ pass1 ! (init ! 12 refl wt) $ pass1 ! (init ! 10 refl (tt, record { fits = gi })) $ pass0 ! $
-        assigns ! (of-opd ! (load ! (from ! (fld ! refl (stop !))) (look-in ! 12 (sub ! 0 refl (whole !))))) (from ! (stop !)) (init ! 6 refl (tt, wt .1 .0)) $
-        assigns ! (of-opd ! (load ! (from ! (fld ! refl (stop !))) (look-in ! 12 (sub ! 1 refl (whole !))))) (from ! (stop !)) (init ! 4 refl (tt, wt .1 .1 .0)) $
-        move ! (16 ∷ []) $ use1 W (raw (FieldsAt 𝓤 H A mem run .pre to) ⊛ ‵ Own) (apart (wt .1 .1 .0 .fits) gi) $ split ! $
-        calls-at ! fm (FieldsAt 𝓤 H A mem run) known to (and-then ! (load ! (from ! (stop !)) (look ! 8 refl)) (and-then ! (load ! (from ! (stop !)) (look ! 6 refl)) (and-then ! (load ! (from ! (stop !)) (look ! 12 refl)) (no-more !)))) (λ u.
+        alloc1 ! (λ l₀. alloc1 ! (λ l₁. alloc1 ! (λ l₂. alloc1 ! (λ l₃. alloc1 ! (λ l₄. alloc1 ! (λ l₅. alloc1 ! (λ l₆. alloc1 ! (λ l₇. alloc1 ! (λ l₈. alloc0 ! $ params1 ! $ pass1 ! (init ! 14 refl wt) $ pass1 ! (init ! 12 refl (tt, record { fits = gi })) $ pass0 ! $
+        assigns ! (of-opd ! (load ! (from ! (fld ! refl (stop !))) (look-in ! 14 (sub ! 0 refl (whole !))))) (from ! (stop !)) (init ! 6 refl (tt, wt .1 .0)) $
+        assigns ! (of-opd ! (load ! (from ! (fld ! refl (stop !))) (look-in ! 14 (sub ! 1 refl (whole !))))) (from ! (stop !)) (init ! 4 refl (tt, wt .1 .1 .0)) $
+        move ! (18 ∷ []) $ use1 W (raw (FieldsAt 𝓤 H A mem run .pre to) ⊛ ‵ Own) (apart (wt .1 .1 .0 .fits) gi) $ split ! $
+        calls-at ! fm (FieldsAt 𝓤 H A mem run) known to (and-then ! (load ! (from ! (stop !)) (look ! 8 refl)) (and-then ! (load ! (from ! (stop !)) (look ! 6 refl)) (and-then ! (load ! (from ! (stop !)) (look ! 14 refl)) (no-more !)))) (λ u.
         use1 W (later (some (λ (r : LineRow). ((‵ (flft κ q) ⊛ ‵ ftrue) ⊛ ‵ (S.the-row .own r (u ∷ []))) ⊛ raw (ensured 𝓤 H A step.ended (step.clauses 𝓤 H A mem run) (κ, tt) (d .src, (d .at, (i, tt))) tt r)))) (id⊢ 𝓤 _) $ await ! tt $ pick ! (λ r.
         split ! $ move ! (1 ∷ []) $ use1 W (raw (fact 𝓤 (Said r))) (said r) $ heard ! (Said r) (λ e. split ! $ move ! (1 ∷ []) $
-        -- [the callee's result; the token; what the struct owns; _7; …; _6; …; _5; …; _4; …; _3; …; _2; …; _1; …; room for _0; …]
+        -- [the callee's result; the token; what the struct owns; _8; …; _7; …; _6; …; _5; …; _4; …; _3; …; _2; …; _1; …; room for _0; …]
         peeks ! S.the-row (Is S.the-row) (shows 𝓤 H A S.the-row) r (u ∷ []) (λ is.
-        land ! (from ! (stop !)) (init ! 11 refl (LL.lawful S.the-type S′.the-laws 𝓤 H A W .typed r _ is .0)) $
-        rewrite ! 11 (λ (x : Val). ‵ (fat fullShare S′.mir l₃ 0 x)) (ap only (LL.tells S.the-type S′.the-laws r _ is)) refl $
-        assigns ! (of-opd ! (load ! (from ! (fld ! refl (stop !))) (look-in ! 15 (sub ! 0 refl (whole !))))) (from ! (stop !)) (init ! 5 refl (tt, wt .1 .0)) $
-        assigns ! (agg ! (and-then ! (load ! (from ! (stop !)) (look ! 5 refl)) (and-then ! (load ! (from ! (fld ! refl (stop !))) (look-in ! 11 (sub ! 2 refl (whole !)))) (no-more !)))) (from ! (stop !))
+        land ! (from ! (stop !)) (init ! 13 refl (LL.lawful S.the-type S′.the-laws 𝓤 H A W .typed r _ is .0)) $
+        rewrite ! 13 (λ (x : Val). ‵ (fat fullShare S′.mir l₃ 0 x)) (ap only (LL.tells S.the-type S′.the-laws r _ is)) refl $
+        assigns ! (of-opd ! (load ! (from ! (fld ! refl (stop !))) (look-in ! 13 (sub ! 2 refl (whole !))))) (from ! (stop !)) (init ! 11 refl (tt, record { fits = LL.owed S.the-type S′.the-laws r _ is .1 .1 .0 .1 })) $
+        assigns ! (of-opd ! (load ! (from ! (fld ! refl (stop !))) (look-in ! 17 (sub ! 0 refl (whole !))))) (from ! (stop !)) (init ! 5 refl (tt, wt .1 .0)) $
+        assigns ! (agg ! (and-then ! (load ! (from ! (stop !)) (look ! 5 refl)) (and-then ! (load ! (from ! (stop !)) (look ! 11 refl)) (no-more !)))) (from ! (stop !))
         (init ! 3 refl (LL.lawful (T.the-type αᵉ) (T′.the-laws αᵉ) 𝓤 H A W .typed (moved r) _ (is-moved held r u is) .0)) $
-        assigns ! (agg ! (and-then ! (load ! (from ! (fld ! refl (stop !))) (look-in ! 11 (sub ! 0 refl (whole !)))) (and-then ! (load ! (from ! (fld ! refl (stop !))) (look-in ! 11 (sub ! 1 refl (whole !)))) (and-then ! (load ! (from ! (stop !)) (look ! 3 refl)) (no-more !))))) (from ! (stop !))
-        (init ! 17 refl (LL.lawful (R.the-type α) (R′.the-laws α) 𝓤 H A W .typed (made r) _ (is-made held r u is) .0)) $
-        returns ! (look ! 17 refl) $ forget ! 3 refl $ forget ! 5 refl $ forget ! 7 refl $ forget ! 9 refl $ forget ! 11 refl $ forget ! 13 refl $ forget ! 15 refl $ forget ! 17 refl $
-        move ! (17 ∷ 18 ∷ []) $ free1 ! $ move ! (15 ∷ 16 ∷ []) $ free1 ! $ move ! (13 ∷ 14 ∷ []) $ free1 ! $ move ! (11 ∷ 12 ∷ []) $ free1 ! $ move ! (9 ∷ 10 ∷ []) $ free1 ! $ move ! (7 ∷ 8 ∷ []) $ free1 ! $ move ! (5 ∷ 6 ∷ []) $ free1 ! $ move ! (3 ∷ 4 ∷ []) $ free1 ! $ free0 ! $ by ! (exits gi r u e)))))))))))))
+        assigns ! (agg ! (and-then ! (load ! (from ! (fld ! refl (stop !))) (look-in ! 13 (sub ! 0 refl (whole !)))) (and-then ! (load ! (from ! (fld ! refl (stop !))) (look-in ! 13 (sub ! 1 refl (whole !)))) (and-then ! (load ! (from ! (stop !)) (look ! 3 refl)) (no-more !))))) (from ! (stop !))
+        (init ! 19 refl (LL.lawful (R.the-type α) (R′.the-laws α) 𝓤 H A W .typed (made r) _ (is-made held r u is) .0)) $
+        returns ! (look ! 19 refl) $ forget ! 3 refl $ forget ! 5 refl $ forget ! 7 refl $ forget ! 9 refl $ forget ! 11 refl $ forget ! 13 refl $ forget ! 15 refl $ forget ! 17 refl $ forget ! 19 refl $
+        move ! (19 ∷ 20 ∷ []) $ free1 ! $ move ! (17 ∷ 18 ∷ []) $ free1 ! $ move ! (15 ∷ 16 ∷ []) $ free1 ! $ move ! (13 ∷ 14 ∷ []) $ free1 ! $ move ! (11 ∷ 12 ∷ []) $ free1 ! $ move ! (9 ∷ 10 ∷ []) $ free1 ! $ move ! (7 ∷ 8 ∷ []) $ free1 ! $ move ! (5 ∷ 6 ∷ []) $ free1 ! $ move ! (3 ∷ 4 ∷ []) $ free1 ! $ free0 ! $ by ! (exits gi r u e))))))))))))))
 
 module _ {M : Type 1} (𝓤 : URA M) (H : Heap 𝓤) (A : Atoms 𝓤) (W : Given 𝓤 H A) (mem : Memory → SProp 𝓤) (run : Routine → Fun 𝓤) where
   line-walks : (C : Calls 𝓤 H) (Λ : Loops 𝓤 H) → FmC 𝓤 H (W .laws) C → Triple 𝓤 (C #sheet-lines·fields-at) (FieldsAt 𝓤 H A mem run)
