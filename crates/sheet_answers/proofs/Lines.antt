@@ -1,4 +1,4 @@
--- A good sheet's taps, by the tree as by the plan; what was read; the whole text. Assumes nothing.
+-- A good sheet's taps, by the tree as by the plan; what the bytes yield; the whole text. Assumes nothing.
 use Prim.Native.Nat.{ℕ, suc, _+_, _*_, _≤_, _<_}
 use mathlib.Core.Path.{_≡_, refl, sym, ap, _∙_, subst}
 use mathlib.Core.Bool.{Bool, true, false}
@@ -10,11 +10,12 @@ use lib.IntN.{ℤ}
 use lib.ListN.{length, getD, drop, length-append}
 use lib.Seq.{sets-eq}
 use Rattle.plan.specs.Afresh.{Tap}
-use Rattle.sheet_format.specs.declared.Parsed.{Parsed}
+use Rattle.tree_state.specs.declared.Tree.{Tree}
 use Rattle.sheet_format.specs.Sheet.{tapWidth, mostTaps, Sheet, Read, refused, sheet, readSheet, tapOf, tapInRange, tapRule}
 use Rattle.sheet_format.specs.declared.Refusal.{Refusal}
+use Rattle.sheet_format.specs.declared.Answer.{Answer}
 use Rattle.sheet_format.specs.declared.Answer.the-variants as answer
-use Rattle.sheet_format.specs.Told.{rowsOf, rowAt, sheetOf, told, numberOf}
+use Rattle.sheet_format.specs.Told.{rowsOf, rowAt, toldAnswer, linesOf, numberOf}
 use Rattle.sheet_calls.specs.Answers.{planOf, tapOn, askedOf, pointOf, placeHit, depthHit, decimal, lineOf, tapLines, sheetText, readText, bytes, output}
 use Rattle.sheet_calls.specs.Good.{Good, Passes}
 use Rattle.sheet_calls.proofs.Finite.{tap-ranges, asked-known}
@@ -24,11 +25,13 @@ use Rattle.sheet_calls.proofs.Bounds.{tap-short, refusal-small}
 use Rattle.sheet_laws.specs.Built.{treeOf}
 use Rattle.sheet_laws.proofs.Tree.{tap-accepted, tap-found}
 use Rattle.sheet_format.proofs.Tables.{rows-length, row-at}
+use Rattle.sheet_tree.specs.Trees.{treeOn, Yields}
+use Rattle.sheet_tree.specs.declared.SheetTree.{SheetTree}
 use Rattle.sheet_answers.specs.text.Text.{Stored}
 use Rattle.sheet_answers.proofs.text.Digits.{short}
 use Rattle.sheet_answers.specs.tap_lines.Lines.{found, tapText, AllReady}
 use Rattle.sheet_answers.proofs.tap_lines.Lines.{short-mark, short-line}
-use Rattle.sheet_answers.specs.Answers.{FromBytes, writtenIf, writtenNumber, roomIf, roomy}
+use Rattle.sheet_answers.specs.Answers.{textBy, treeText, writtenIf, writtenNumber, roomIf, roomy}
 use Rattle.sheet_answers.specs.declared.Written.{Written}
 use Rattle.sheet_answers.specs.declared.Written.the-variants as written
 
@@ -61,33 +64,66 @@ taps-ready s g taps n e i h =
     }
 
 -- the whole text of a good sheet
-pub sheet-text : (p : Parsed) → Good (sheetOf p) → lineOf (p .tapped ∷ []) ++ tapText (treeOf (sheetOf p)) 1 (rowsOf tapWidth (p .tapped) (p .taps)) ≡ sheetText (sheetOf p)
+sheet-text : (s : Sheet) → Good s → (taps : List ℤ) (n : ℕ) → s .taps ≡ rowsOf tapWidth n taps
+    → lineOf (n ∷ []) ++ tapText (treeOf s) 1 (rowsOf tapWidth n taps) ≡ sheetText s
 unfolding sheetText
-sheet-text p g =
-    let rows = rowsOf tapWidth (p .tapped) (p .taps) in
-    ap (λ (n : ℕ). lineOf (n ∷ []) ++ tapText (treeOf (sheetOf p)) 1 rows) (sym (rows-length tapWidth (p .tapped) (p .taps)))
-    ∙ ap (λ (l : List ℕ). lineOf (length rows ∷ []) ++ l) (text-same (sheetOf p) 1 [] rows (g .taps))
-
-pub few-taps : (p : Parsed) → Good (sheetOf p) → p .tapped ≤ mostTaps
-few-taps p g = omega (arith, g .few-taps, rows-length tapWidth (p .tapped) (p .taps))
+sheet-text s g taps n e =
+    ap (λ (k : ℕ). lineOf (k ∷ []) ++ tapText (treeOf s) 1 (rowsOf tapWidth n taps)) (sym (rows-length tapWidth n taps))
+    ∙ ap (λ (rows : List (List ℤ)). lineOf (length rows ∷ []) ++ tapText (treeOf s) 1 rows) (sym e)
+    ∙ ap (λ (l : List ℕ). lineOf (length (s .taps) ∷ []) ++ l) (text-same s 1 [] (s .taps) (g .taps))
 
 pub short-count : (n : ℕ) → n < 10000 → length (lineOf (n ∷ [])) ≤ 5
 unfolding lineOf
 short-count n h = short-mark n 10 h
 
--- ---- what was read
+-- ---- what the bytes yield
 
-pub told-refused : (p : Parsed) (w : Refusal) (l : ℕ) → p .answer ≡ answer.Refused w l → told p ≡ refused (numberOf w) l
-told-refused p w l e = rw e
+module _ (b : List ℕ) (p : SheetTree) (y : Yields b p) where
+  module _ (e : p .answer ≡ answer.Sheet) where
+    abbrev lines : Sheet
+    lines = linesOf (readSheet b)
 
-pub told-sheet : (p : Parsed) → p .answer ≡ answer.Sheet → told p ≡ sheet (sheetOf p)
-told-sheet p e = rw e
+    read : readSheet b ≡ sheet lines
+    read = sym (y .answer) ∙ ap (toldAnswer lines) e
 
-pub line-low : (p : Parsed) → FromBytes p → (w : Refusal) (l : ℕ) → p .answer ≡ answer.Refused w l → l < 10000
-line-low p f w l e = omega (arith, refusal-small (f .0) (numberOf w) l (sym (f .1) ∙ told-refused p w l e) .line)
+    good : Good lines
+    good = good-sheet b lines read
 
-pub good-read : (p : Parsed) → FromBytes p → p .answer ≡ answer.Sheet → Good (sheetOf p)
-good-read p f e = good-sheet (f .0) (sheetOf p) (sym (f .1) ∙ told-sheet p e)
+    tree-read : p .tree ≡ treeOf lines
+    tree-read = y .tree ∙ ap treeOn read
+
+    pub few-taps : p .tapped ≤ mostTaps
+    few-taps = omega (arith, good .few-taps, ap (length {A = List ℤ}) (y .taps), rows-length tapWidth (p .tapped) (p .taps))
+
+    pub all-ready : AllReady (p .tree) (p .taps) (p .tapped)
+    all-ready = subst (λ (t : Tree). AllReady t (p .taps) (p .tapped)) (sym tree-read) (taps-ready lines good (p .taps) (p .tapped) (sym (y .taps)))
+
+    sheet-said : treeText p ≡ output b
+    unfolding output
+    sheet-said =
+        ap (textBy p) e
+        ∙ ap (λ (t : Tree). lineOf (p .tapped ∷ []) ++ tapText t 1 (rowsOf tapWidth (p .tapped) (p .taps))) tree-read
+        ∙ sheet-text lines good (p .taps) (p .tapped) (sym (y .taps))
+        ∙ ap readText (sym read)
+
+  module _ (w : Refusal) (l : ℕ) (e : p .answer ≡ answer.Refused w l) where
+    stopped-read : readSheet b ≡ refused (numberOf w) l
+    stopped-read = sym (y .answer) ∙ ap (toldAnswer (linesOf (readSheet b))) e
+
+    pub line-low : l < 10000
+    line-low = omega (arith, refusal-small b (numberOf w) l stopped-read .line)
+
+    refusal-said : treeText p ≡ output b
+    unfolding output
+    refusal-said = ap (textBy p) e ∙ ap readText (sym stopped-read)
+
+  -- the text of what they yield is what they are answered with
+  pub said : treeText p ≡ output b
+  said = go (p .answer) refl
+    where
+      go : (a : Answer) → p .answer ≡ a → treeText p ≡ output b
+      go answer.Sheet e = sheet-said e
+      go (answer.Refused w l) e = refusal-said w l e
 
 -- ---- the whole text stands in front of the room
 
@@ -139,11 +175,10 @@ module _ (s room : List ℕ) where
   pub short-answer : ltb (length room) 16384 ≡ true → (written.ShortRoom ≡ writtenIf (roomy room) (length (output s))) × (room ≡ roomIf (roomy room) (output s) room)
   short-answer e = (rw e, rw e)
 
-  pub full-answer : ltb (length room) 16384 ≡ false → (p : Parsed) (new : List ℕ) (n : ℕ) → told p ≡ readSheet s → Stored room new 0 n (readText (told p))
+  pub full-answer : ltb (length room) 16384 ≡ false → (p : SheetTree) (new : List ℕ) (n : ℕ) → Yields s p → Stored room new 0 n (treeText p)
       → (written.Bytes n ≡ writtenIf (roomy room) (length (output s))) × (new ≡ roomIf (roomy room) (output s) room)
-  unfolding output
-  full-answer e p new n f S =
-      let T : Stored room new 0 n (output s) = subst (λ (r : Read). Stored room new 0 n (readText r)) f S in
+  full-answer e p new n y S =
+      let T : Stored room new 0 n (output s) = subst (Stored room new 0 n) (said s p y) S in
       let c : n ≡ length (output s) = omega (arith, T .behind) in
       let long : length (output s) ≤ length room = omega (arith, ltb-false (length room) 16384 e, output-short s) in
       (rw (e, c), rw e (in-front room new n (output s) T long))

@@ -1,19 +1,34 @@
--- What was read, and what a room holds after the answer.
+-- What the bytes yield, as text, and what a room holds after the answer.
 use Prim.Native.Nat.{ℕ}
-use mathlib.Core.Path.{_≡_}
 use mathlib.Core.Bool.{Bool, true, false, not}
-use mathlib.Core.List.{List, _++_}
+use mathlib.Core.List.{List, [], _∷_, _++_}
 use lib.Dec.{ltb}
 use lib.ListN.{length, drop}
-use Rattle.sheet_format.specs.Sheet.{readSheet}
-use Rattle.sheet_format.specs.Told.{told}
-use Rattle.sheet_format.specs.declared.Parsed.{Parsed}
+use Rattle.sheet_format.specs.Sheet.{tapWidth, refused}
+use Rattle.sheet_format.specs.Told.{numberOf, rowsOf}
+use Rattle.sheet_format.specs.declared.Answer.{Answer}
+use Rattle.sheet_format.specs.declared.Answer.the-variants as answer
+use Rattle.sheet_calls.specs.Answers.{lineOf, readText}
+use Rattle.sheet_tree.specs.Trees.{Yields}
+use Rattle.sheet_tree.specs.declared.SheetTree.{SheetTree}
+use Rattle.sheet_answers.specs.tap_lines.Lines.{tapText}
 use Rattle.sheet_answers.specs.declared.Written.{Written}
 use Rattle.sheet_answers.specs.declared.Written.the-variants as written
 
--- what some bytes were read as
-abbrev pub FromBytes : Parsed → Type 0
-FromBytes p = (s : List ℕ) × (told p ≡ readSheet s)
+-- what some bytes yield
+abbrev pub FromBytes : SheetTree → Type 0
+FromBytes p = (s : List ℕ) × Yields s p
+
+-- the tap count, then the taps on the tree
+abbrev pub tapsText : SheetTree → List ℕ
+tapsText p = lineOf (p .tapped ∷ []) ++ tapText (p .tree) 1 (rowsOf tapWidth (p .tapped) (p .taps))
+
+abbrev pub textBy : SheetTree → Answer → List ℕ
+textBy p answer.Sheet = tapsText p
+textBy p (answer.Refused why at) = readText (refused (numberOf why) at)
+
+abbrev pub treeText : SheetTree → List ℕ
+treeText p = textBy p (p .answer)
 
 -- ---- the call
 

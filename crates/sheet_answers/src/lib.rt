@@ -12,13 +12,13 @@ pub mod text;
 ghost use mathlib.Core.Path.{_≡_};
 ghost use Prim.Native.Nat.{_≤_};
 ghost use lib.ListN.{length};
-ghost use Rattle.sheet_format.specs.Told.{sheetOf, told};
+ghost use Rattle.sheet_format.specs.Sheet.{mostTaps};
 ghost use Rattle.sheet_calls.specs.Answers as text;
-ghost use Rattle.sheet_calls.specs.Good.{Good};
 ghost use Rattle.sheet_answers.specs.text.Text.{Stored};
+ghost use Rattle.sheet_answers.specs.tap_lines.Lines.{AllReady};
 ghost use Rattle.sheet_answers.specs.Answers as spec;
 use sheet_format::Answer;
-use sheet_format::Parsed;
+use sheet_tree::SheetTree;
 
 // How many bytes stand in front of the room, or document 01's 8.
 pub enum Written {
@@ -27,22 +27,20 @@ pub enum Written {
 }
 
 // The tap count, then the taps.
-fn put_sheet(p: Parsed, room: &mut [u8]) -> usize
-    requires { ⌜ Good (sheetOf p) × (16384 ≤ length (now room)) ⌝ }
-    ensures { λ r. ⌜ Stored (now (room .entry)) (now (room .exit)) 0 r (text.sheetText (sheetOf p)) ⌝ }
+fn put_sheet(p: SheetTree, room: &mut [u8]) -> usize
+    requires { ⌜ (p .tapped ≤ mostTaps) × AllReady (p .tree) (p .taps) (p .tapped) × (16384 ≤ length (now room)) ⌝ }
+    ensures { λ r. ⌜ Stored (now (room .entry)) (now (room .exit)) 0 r (spec.tapsText p) ⌝ }
 {
-    let places = p.places;
-    let clips = p.clips;
+    let t = p.tree;
     let taps = p.taps;
-    let t = sheet_tree::build(&places, p.placed, &clips, p.clipped);
     let first = text::put_line(room, 0, p.tapped);
     tap_lines::put_taps(t, &taps, p.tapped, first, room)
 }
 
 // The text of what was read.
-fn put_read(p: Parsed, room: &mut [u8]) -> usize
+fn put_read(p: SheetTree, room: &mut [u8]) -> usize
     requires { ⌜ spec.FromBytes p × (16384 ≤ length (now room)) ⌝ }
-    ensures { λ r. ⌜ Stored (now (room .entry)) (now (room .exit)) 0 r (text.readText (told p)) ⌝ }
+    ensures { λ r. ⌜ Stored (now (room .entry)) (now (room .exit)) 0 r (spec.treeText p) ⌝ }
 {
     let answer = p.answer;
     match answer {
@@ -59,7 +57,7 @@ pub fn answer_into(s: &[u8], room: &mut [u8]) -> Written
     if room.len() < 16384 {
         return Written::ShortRoom;
     }
-    let p = sheet_reader::read_sheet(s);
+    let p = sheet_tree::read_tree(s);
     let n = put_read(p, room);
     Written::Bytes(n)
 }

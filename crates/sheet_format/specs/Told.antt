@@ -1,5 +1,6 @@
 -- What the enums and structs of the reader stand for, in the sheet's definitions.
 use Prim.Native.Nat.{ℕ, zero, suc, _+_, _*_}
+use mathlib.Core.Path.{_≡_}
 use mathlib.Core.List.{List, [], _∷_}
 use lib.IntN.{ℤ, pos}
 use lib.ListN.{length, take, drop}
@@ -90,3 +91,25 @@ sheetOf p =
 -- a sheet that was read
 abbrev pub told : Parsed → Read
 told p = toldAnswer (sheetOf p) (p .answer)
+
+-- ---- how many lines
+
+pub record Counts : Type 0 where
+  pub places : ℕ
+  pub clips : ℕ
+  pub taps : ℕ
+
+-- the lines of what was read: a refused sheet has none
+abbrev pub linesOf : Read → Sheet
+linesOf (refused r at) = record { places = []; clips = []; taps = [] }
+linesOf (sheet whole) = whole
+
+abbrev pub countsOn : Sheet → Counts
+countsOn s = record { places = length (s .places); clips = length (s .clips); taps = length (s .taps) }
+
+abbrev pub countsOf : Parsed → Counts
+countsOf p = record { places = p .placed; clips = p .clipped; taps = p .tapped }
+
+-- the counts are those of what was read: a refused sheet's are 0
+abbrev pub Counted : Parsed → Type 0
+Counted p = countsOf p ≡ countsOn (linesOf (told p))

@@ -1,6 +1,6 @@
 -- Lines of whole numbers (document 01, "The plan sheet"): "Decimals without leading zeros or −0, one space between, LF after each line."
 -- A byte is its ASCII code.
-use Prim.Native.Nat.{ℕ, _+_, _*_, _-_}
+use Prim.Native.Nat.{ℕ, suc, _+_, _*_, _-_}
 use mathlib.Core.Bool.{Bool, _&&_, cond}
 use mathlib.Core.List.{List, [], _∷_}
 use lib.Dec.{leb, eqb}
@@ -92,3 +92,8 @@ beginning b (line s rest) = line (b ∷ s) rest
 unfoldable pub cut : List ℕ → Cut
 cut [] = without
 cut (b ∷ s) = cond (eqb b 10) (line [] s) (beginning b (cut s))
+
+-- the position behind the first line with its LF, of bytes that begin at a position; or, without such a line, that position
+abbrev pub behind : ℕ → Cut → ℕ
+behind at without = at
+behind at (line s rest) = at + suc (length s)

@@ -2,9 +2,10 @@
 use Prim.Native.Nat.{ℕ, min}
 use mathlib.Core.Bool.{cond}
 use mathlib.Core.List.{List, map}
+use lib.Dec.{leb}
 use lib.IntN.{ℤ, pos, negsuc}
 use lib.ListN.{take, drop}
-use Rattle.sheet_lines.specs.Lines.{Decimal, Numbers, malformed, whole, numbers, fields, Cut, without, line, cut}
+use Rattle.sheet_lines.specs.Lines.{lineWidth, Decimal, Numbers, malformed, whole, numbers, fields, Cut, without, line, cut}
 use Rattle.sheet_lines.specs.declared.Digits.{Digits}
 use Rattle.sheet_lines.specs.declared.Word.{Word}
 use Rattle.sheet_lines.specs.declared.Row.{Row}
@@ -24,7 +25,7 @@ saturatedNumbers (numbers zs) = numbers (map saturated zs)
 
 -- ---- the first line of some bytes
 
--- its numbers and what follows its LF; or there is none with its LF, or it has not so many well-formed whole numbers
+-- its numbers and what follows its LF; or there is none with its LF, or it has not so many well-formed whole numbers, or so many are more than any line has
 pub data First : Type 0 where
   unfit : First
   row : List ℤ → List ℕ → First
@@ -38,7 +39,7 @@ firstOf width without = unfit
 firstOf width (line s rest) = followed rest (saturatedNumbers (fields width s))
 
 unfoldable pub firstFields : ℕ → List ℕ → First
-firstFields width s = firstOf width (cut s)
+firstFields width s = cond (leb width lineWidth) (firstOf width (cut s)) unfit
 
 -- ---- what the structs stand for
 

@@ -28,7 +28,7 @@ pub struct Row {
     pub row: [i64; LINE_WIDTH],
 }
 
-// A line's numbers, if `good`, and the position behind its LF.
+// A line's numbers, in the first places of `row`, if `good`; and the position behind its LF, good or not, or where there is no LF the position that was asked.
 pub struct LineRow {
     pub good: bool,
     pub row: [i64; LINE_WIDTH],
@@ -153,27 +153,31 @@ fn row_of(line: &[u8], width: usize) -> Row
     Row { good: true, row }
 }
 
-fn no_line() -> LineRow
-    ensures { λ r. ⌜ r .good ≡ false ⌝ }
+fn no_line(next: usize) -> LineRow
+    ensures { λ r. ⌜ (r .good ≡ false) × (r .next ≡ next) ⌝ }
 {
     LineRow {
         good: false,
         row: [0i64; LINE_WIDTH],
-        next: 0,
+        next,
     }
 }
 
-// Inner: the line of `width` numbers that begins at `at`. A line has its LF.
+// The line of `width` numbers that begins at `at`, and the position behind its LF. A line has its LF, and at most LINE_WIDTH numbers.
 pub fn fields_at(s: &[u8], at: usize, width: usize) -> LineRow
-    requires { ⌜ width ≤ spec.lineWidth ⌝ }
-    ensures { λ r. ⌜ toldLine width (now (s .entry)) r ≡ firstFields width (drop at (now (s .entry))) ⌝ }
+    ensures { λ r. ⌜
+        (toldLine width (now (s .entry)) r ≡ firstFields width (drop at (now (s .entry))))
+        × (r .next ≡ spec.behind at (spec.cut (drop at (now (s .entry))))) ⌝ }
 {
     if at > s.len() {
-        return no_line();
+        return no_line(at);
     }
     let end = bytes::scan::find(s, at, s.len(), b'\n');
     if end >= s.len() {
-        return no_line();
+        return no_line(at);
+    }
+    if width > LINE_WIDTH {
+        return no_line(end + 1);
     }
     let r = row_of(&s[at..end], width);
     let row = r.row;

@@ -14,44 +14,55 @@ pub mod sections;
 pub mod whole;
 
 ghost use mathlib.Core.Path.{_≡_};
-ghost use Prim.Native.Nat.{_≤_};
-ghost use lib.ListN.{drop};
-ghost use Rattle.sheet_lines.specs.Lines.{lineWidth};
-ghost use Rattle.sheet_lines.specs.Saturated.{toldLine, firstFields};
+ghost use Rattle.sheet_lines.specs.Saturated.{firstFields};
 ghost use Rattle.sheet_format.specs.Sheet.{readSheet};
-ghost use Rattle.sheet_format.specs.Told.{told};
+ghost use Rattle.sheet_format.specs.Told.{told, Counted};
+ghost use Rattle.sheet_reader.specs.Ahead.{ahead, moved, toldRead};
 use sheet_format::Parsed;
-use sheet_lines::LineRow;
+use sheet_lines::LINE_WIDTH;
 
 pub struct Reader<'a> {
     pub src: &'a [u8],
     pub at: usize,
 }
 
-pub fn new<'a>(src: &'a [u8]) -> Reader<'a>
-    ensures { λ r. ⌜ (r .src ≡ src .entry) × (r .at ≡ 0) ⌝ }
-{
-    Reader { src, at: 0 }
+// A line's numbers, in the first places of `row`, if `good`; and the reader behind the line, good or not, or where there is no LF ahead as it was.
+pub struct ReadLine<'a> {
+    pub good: bool,
+    pub row: [i64; LINE_WIDTH],
+    pub reader: Reader<'a>,
 }
 
-// Inner: the line of `width` numbers at the reader's place.
-pub fn line<'a>(r: Reader<'a>, width: usize) -> LineRow
-    requires { ⌜ width ≤ lineWidth ⌝ }
-    ensures { λ f. ⌜ toldLine width (now (r .entry .src)) f ≡ firstFields width (drop (r .entry .at) (now (r .entry .src))) ⌝ }
+pub fn new<'a>(src: &'a [u8], at: usize) -> Reader<'a>
+    ensures { λ r. ⌜ (r .src ≡ src .entry) × (r .at ≡ at) ⌝ }
 {
-    sheet_lines::fields_at(r.src, r.at, width)
+    Reader { src, at }
 }
 
-// The sheet at the reader's place.
+// The line of `width` numbers at the reader's place. No line has more than LINE_WIDTH.
+pub fn line<'a>(r: Reader<'a>, width: usize) -> ReadLine<'a>
+    ensures { λ f. ⌜ (toldRead width f ≡ firstFields width (ahead (r .entry))) × (f .reader ≡ moved (r .entry)) ⌝ }
+{
+    let f = sheet_lines::fields_at(r.src, r.at, width);
+    let at = f.next;
+    ReadLine {
+        good: f.good,
+        row: f.row,
+        reader: Reader { src: r.src, at },
+    }
+}
+
+// The sheet at the reader's place; a refused one has no rows.
 pub fn sheet<'a>(r: Reader<'a>) -> Parsed
-    ensures { λ p. ⌜ told p ≡ readSheet (drop (r .entry .at) (now (r .entry .src))) ⌝ }
+    ensures { λ p. ⌜ (told p ≡ readSheet (ahead (r .entry))) × Counted p ⌝ }
 {
-    whole::sheet_at(r.src, r.at)
+    let at = r.at;
+    whole::sheet_at(r.src, at)
 }
 
-// The sheet that some bytes are.
+// The sheet that some bytes are; a refused one has no rows.
 pub fn read_sheet(s: &[u8]) -> Parsed
-    ensures { λ r. ⌜ told r ≡ readSheet (now (s .entry)) ⌝ }
+    ensures { λ p. ⌜ (told p ≡ readSheet (now (s .entry))) × Counted p ⌝ }
 {
-    sheet(new(s))
+    sheet(new(s, 0))
 }

@@ -58,7 +58,7 @@ module _ (most line at : ℕ) (s : List ℕ) (m : most ≤ mostLines) (f : LineR
   B = blind (kind.Count most) [] m (omega arith)
 
   pub count-21 : not (f .good) ≡ true → stopped 21 line ≡ section (countRule most) 1 [] line (drop at s)
-  count-21 g = sym (stop-21 (countRule most) [] B 0 line (drop at s) (rw (not-true (f .good) g) at told))
+  count-21 g = sym (stop-21 (countRule most) [] B (omega arith) 0 line (drop at s) (rw (not-true (f .good) g) at told))
 
   module _ (g : not (f .good) ≡ false) (r : Bool) (e : r ≡ within (pos 0) (pos most) (column (f .row) 0)) where
     numbers-read : row (take 1 (f .row)) (drop (f .next) s) ≡ firstFields 1 (drop at s)
@@ -68,7 +68,7 @@ module _ (most line at : ℕ) (s : List ℕ) (m : most ≤ mostLines) (f : LineR
     ranged = inRange-row (kind.Count most) (f .row) ∙ sym e
 
     pub count-22 : not r ≡ true → stopped 22 line ≡ section (countRule most) 1 [] line (drop at s)
-    count-22 x = sym (stop-22 (countRule most) [] B 0 line (drop at s) (take 1 (f .row)) (drop (f .next) s) numbers-read (ranged ∙ not-true r x))
+    count-22 x = sym (stop-22 (countRule most) [] B (omega arith) 0 line (drop at s) (take 1 (f .row)) (drop (f .next) s) numbers-read (ranged ∙ not-true r x))
 
     pub in-bounds : not r ≡ false → within (pos 0) (pos most) (getD (f .row) 0 (pos 0)) ≡ true
     in-bounds x = sym e ∙ not-false r x
@@ -79,7 +79,7 @@ module _ (most line at : ℕ) (s : List ℕ) (m : most ≤ mostLines) (f : LineR
         let z = getD (f .row) 0 (pos 0) in
         ap (λ y. ended ((y ∷ []) ∷ []) (drop (f .next) s)) (itself most z (in-bounds x))
         ∙ ap (λ zs. ended (zs ∷ []) (drop (f .next) s)) (sym (one-number (f .row) l))
-        ∙ sym (pass (countRule most) [] B 0 line (drop at s) (take 1 (f .row)) (drop (f .next) s) numbers-read (ranged ∙ not-false r x) refl)
+        ∙ sym (pass (countRule most) [] B (omega arith) 0 line (drop at s) (take 1 (f .row)) (drop (f .next) s) numbers-read (ranged ∙ not-false r x) refl)
 
 -- ---- the section that is counted
 

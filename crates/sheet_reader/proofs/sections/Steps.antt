@@ -2,14 +2,15 @@
 use mathlib.Core.Path.{_≡_, refl, sym, ap, _∙_}
 use mathlib.Core.Bool.{Bool, true, false, cond}
 use mathlib.Core.List.{List, [], _∷_, _++_, map}
-use Prim.Native.Nat.{ℕ, suc}
+use Prim.Native.Nat.{ℕ, suc, _≤_}
 use native.Mathlib.Omega.{arith}
 use borrow.Author.Tests.{eqb-true}
 use lib.Dec.{eqb}
 use lib.IntN.{ℤ}
 use lib.ListN.{length}
-use Rattle.sheet_lines.specs.Lines.{Numbers, malformed, numbers, numbersOf, wordsOf, ofWidth, fields, Cut, without, line, cut}
+use Rattle.sheet_lines.specs.Lines.{lineWidth, Numbers, malformed, numbers, numbersOf, wordsOf, ofWidth, fields, Cut, without, line, cut}
 use Rattle.sheet_lines.specs.Saturated.{saturated, saturatedNumbers, unfit, row, followed, firstOf, firstFields}
+use Rattle.sheet_lines.proofs.Cuts.{narrow}
 use Rattle.sheet_format.specs.Sheet.{Rule, judgeNumbers, judge, Section, stopped, onJudged, onLine, section}
 use Rattle.sheet_reader.proofs.sections.Ranges.{Blind}
 
@@ -97,23 +98,23 @@ module _ (rule : Rule) (before : List (List ℤ)) (B : Blind rule before) (l : �
 
 -- ---- one more line of a section
 
-module _ (rule : Rule) (before : List (List ℤ)) (B : Blind rule before) (n l : ℕ) (s : List ℕ) where
+module _ (rule : Rule) (before : List (List ℤ)) (B : Blind rule before) (N : rule .width ≤ lineWidth) (n l : ℕ) (s : List ℕ) where
   abbrev go-on : List ℤ → List ℕ → Section
   go-on zs rest = section rule n (before ++ zs ∷ []) (suc l) rest
 
   pub stop-21 : unfit ≡ firstFields (rule .width) s → section rule (suc n) before l s ≡ stopped 21 l
-  unfolding section firstFields
-  stop-21 e = unfit-cut rule before B l go-on (cut s) (sym e)
+  unfolding section
+  stop-21 e = unfit-cut rule before B l go-on (cut s) (sym (e ∙ narrow s (rule .width) N))
 
   module _ (zs : List ℤ) (rest : List ℕ) (e : row zs rest ≡ firstFields (rule .width) s) where
     pub stop-22 : rule .inRange zs ≡ false → section rule (suc n) before l s ≡ stopped 22 l
-    unfolding section firstFields
-    stop-22 r = out-cut rule before B l go-on zs rest (cut s) (sym e) r
+    unfolding section
+    stop-22 r = out-cut rule before B l go-on zs rest (cut s) (sym (e ∙ narrow s (rule .width) N)) r
 
     pub stop-23 : rule .inRange zs ≡ true → rule .fitting before zs ≡ false → section rule (suc n) before l s ≡ stopped 23 l
-    unfolding section firstFields
-    stop-23 r f = bad-cut rule before B l go-on zs rest (cut s) (sym e) r f
+    unfolding section
+    stop-23 r f = bad-cut rule before B l go-on zs rest (cut s) (sym (e ∙ narrow s (rule .width) N)) r f
 
     pub pass : rule .inRange zs ≡ true → rule .fitting before zs ≡ true → section rule (suc n) before l s ≡ section rule n (before ++ zs ∷ []) (suc l) rest
-    unfolding section firstFields
-    pass r f = good-cut rule before B l go-on zs rest (cut s) (sym e) r f
+    unfolding section
+    pass r f = good-cut rule before B l go-on zs rest (cut s) (sym (e ∙ narrow s (rule .width) N)) r f

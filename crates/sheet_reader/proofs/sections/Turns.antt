@@ -79,7 +79,7 @@ module _ (k : Kind) (n line from : ℕ) (s : List ℕ) (table₀ table : List �
     pub turn-21 : not (f .good) ≡ true → stopped 21 (line + i) ≡ section (ruleOf k) n [] line (drop from s)
     turn-21 g =
         let e : unfit ≡ firstFields (ruleOf k .width) (drop at s) = rw (not-true (f .good) g) at told' in
-        sym (stop-21 (ruleOf k) (rowsOf (ruleOf k .width) i table) B (n - (i + 1)) (line + i) (drop at s) e) ∙ here
+        sym (stop-21 (ruleOf k) (rowsOf (ruleOf k .width) i table) B (narrow k) (n - (i + 1)) (line + i) (drop at s) e) ∙ here
 
     module _ (g : not (f .good) ≡ false) (r : Bool) (e : r ≡ ruleOf k .inRange (f .row)) where
       numbers-read : row (take (ruleOf k .width) (f .row)) (drop (f .next) s) ≡ firstFields (ruleOf k .width) (drop at s)
@@ -90,7 +90,7 @@ module _ (k : Kind) (n line from : ℕ) (s : List ℕ) (table₀ table : List �
 
       pub turn-22 : not r ≡ true → stopped 22 (line + i) ≡ section (ruleOf k) n [] line (drop from s)
       turn-22 x =
-          sym (stop-22 (ruleOf k) (rowsOf (ruleOf k .width) i table) B (n - (i + 1)) (line + i) (drop at s) (take (ruleOf k .width) (f .row)) (drop (f .next) s) numbers-read (ranged ∙ not-true r x))
+          sym (stop-22 (ruleOf k) (rowsOf (ruleOf k .width) i table) B (narrow k) (n - (i + 1)) (line + i) (drop at s) (take (ruleOf k .width) (f .row)) (drop (f .next) s) numbers-read (ranged ∙ not-true r x))
           ∙ here
 
       module _ (x : not r ≡ false) (t : Bool) (d : t ≡ ruleOf k .fitting (rowsOf (ruleOf k .width) i table) (f .row)) where
@@ -99,7 +99,7 @@ module _ (k : Kind) (n line from : ℕ) (s : List ℕ) (table₀ table : List �
 
         pub turn-23 : not t ≡ true → stopped 23 (line + i) ≡ section (ruleOf k) n [] line (drop from s)
         turn-23 y =
-            sym (stop-23 (ruleOf k) (rowsOf (ruleOf k .width) i table) B (n - (i + 1)) (line + i) (drop at s) (take (ruleOf k .width) (f .row)) (drop (f .next) s) numbers-read (ranged ∙ not-false r x)
+            sym (stop-23 (ruleOf k) (rowsOf (ruleOf k .width) i table) B (narrow k) (n - (i + 1)) (line + i) (drop at s) (take (ruleOf k .width) (f .row)) (drop (f .next) s) numbers-read (ranged ∙ not-false r x)
             (fitted ∙ not-true t y))
             ∙ here
 
@@ -117,7 +117,7 @@ module _ (k : Kind) (n line from : ℕ) (s : List ℕ) (table₀ table : List �
                   ap (λ u. section (ruleOf k) (n - (i + 1)) u (line + (i + 1)) (drop (f .next) s))
                   (ap (rowsOf (ruleOf k .width) (i + 1)) p' ∙ rw add-one (stored (ruleOf k .width) i table (f .row) b c))
                   ∙ ap (λ u. section (ruleOf k) (n - (i + 1)) (rowsOf (ruleOf k .width) i table ++ take (ruleOf k .width) (f .row) ∷ []) u (drop (f .next) s)) z
-                  ∙ sym (pass (ruleOf k) (rowsOf (ruleOf k .width) i table) B (n - (i + 1)) (line + i) (drop at s) (take (ruleOf k .width) (f .row)) (drop (f .next) s) numbers-read (ranged ∙ not-false r x)
+                  ∙ sym (pass (ruleOf k) (rowsOf (ruleOf k .width) i table) B (narrow k) (n - (i + 1)) (line + i) (drop at s) (take (ruleOf k .width) (f .row)) (drop (f .next) s) numbers-read (ranged ∙ not-false r x)
                   (fitted ∙ not-false t y))
                   ∙ here;
             }

@@ -5,6 +5,7 @@ use mathlib.Core.Path.{_∙_}
 use Rattle.sheet_format.specs.Sheet.{placeWidth, clipWidth, tapWidth, mostTaps}
 use Rattle.sheet_format.specs.Told.{numberOf, rowsOf}
 use Rattle.sheet_format.proofs.Tables.{rows-length}
+use Rattle.sheet_format.proofs.Counts.{counted-sheet}
 use Rattle.sheet_reader.proofs.end.Ends.{at-end, before-end, taps-stop, taps-go}
 use Prim.Native.Nat.{_+_, _≤_}
 use native.Mathlib.Omega.{arith}
@@ -50,25 +51,31 @@ returns : tie.Need-returns
 returns c = let a = c .before .before .before .before .before .before .before .before .before .args in
     let k = c .before .before .before .k .given .0 .0 in
     let next = c .before .before .before .k .given .0 .1 .0 in
-    let e = rw (c .before .before .before .k .given .1) at (c .before .before .before .before .before .before .counted .ensures .0) in
-    c .refused2 .ensures
-    ∙ before-end (4 + (a .n + a .m) + k) _ (a .s .now) next (c .before .if1 .taken)
-    ∙ taps-go (rowsOf placeWidth (a .n) (a .places)) (rowsOf clipWidth (a .m) (a .clips)) (a .n) (a .m) (rows-length placeWidth (a .n) (a .places)) (rows-length clipWidth (a .m) (a .clips)) (drop (a .at) (a .s .now))
-    (rowsOf tapWidth k (c .before .before .before .before .before .before .counted .last .1 .1 .1 .1 .1 .0)) k (drop next (a .s .now)) (rows-length tapWidth k (c .before .before .before .before .before .before .counted .last .1 .1 .1 .1 .1 .0)) e
+    let e = rw (c .before .before .before .k .given .1) at (c .before .before .before .before .before .before .counted .ensures .0) in (
+      c .refused2 .ensures .0
+          ∙ before-end (4 + (a .n + a .m) + k) _ (a .s .now) next (c .before .if1 .taken)
+          ∙ taps-go (rowsOf placeWidth (a .n) (a .places)) (rowsOf clipWidth (a .m) (a .clips)) (a .n) (a .m) (rows-length placeWidth (a .n) (a .places)) (rows-length clipWidth (a .m) (a .clips)) (drop (a .at) (a .s .now))
+          (rowsOf tapWidth k (c .before .before .before .before .before .before .counted .last .1 .1 .1 .1 .1 .0)) k (drop next (a .s .now)) (rows-length tapWidth k (c .before .before .before .before .before .before .counted .last .1 .1 .1 .1 .1 .0)) e,
+      c .refused2 .ensures .1,
+    )
 
 returns-2 : tie.Need-returns-2
-returns-2 c = let a = c .before .before .before .before .before .before .before .before .args in
-    c .refused .ensures
-    ∙ taps-stop (rowsOf placeWidth (a .n) (a .places)) (rowsOf clipWidth (a .m) (a .clips)) (a .n) (a .m) (rows-length placeWidth (a .n) (a .places)) (rows-length clipWidth (a .m) (a .clips)) (drop (a .at) (a .s .now))
-    (numberOf (c .before .before .why .given .0 .0)) (c .before .before .why .given .0 .1 .0) (rw (c .before .before .why .given .1) at (c .before .before .before .before .before .counted .ensures .0))
+returns-2 c = let a = c .before .before .before .before .before .before .before .before .args in (
+  c .refused .ensures .0
+      ∙ taps-stop (rowsOf placeWidth (a .n) (a .places)) (rowsOf clipWidth (a .m) (a .clips)) (a .n) (a .m) (rows-length placeWidth (a .n) (a .places)) (rows-length clipWidth (a .m) (a .clips)) (drop (a .at) (a .s .now))
+      (numberOf (c .before .before .why .given .0 .0)) (c .before .before .why .given .0 .1 .0) (rw (c .before .before .why .given .1) at (c .before .before .before .before .before .counted .ensures .0)),
+  c .refused .ensures .1,
+)
 
 returns-3 : tie.Need-returns-3
 returns-3 c = let a = c .before .before .before .before .before .before .before .before .args in
     let k = c .before .before .k .given .0 .0 in
-    let next = c .before .before .k .given .0 .1 .0 in
-    at-end (4 + (a .n + a .m) + k) _ (a .s .now) next (c .if1 .left)
-    ∙ taps-go (rowsOf placeWidth (a .n) (a .places)) (rowsOf clipWidth (a .m) (a .clips)) (a .n) (a .m) (rows-length placeWidth (a .n) (a .places)) (rows-length clipWidth (a .m) (a .clips)) (drop (a .at) (a .s .now))
-    (rowsOf tapWidth k (c .before .before .before .before .before .counted .last .1 .1 .1 .1 .1 .0)) k (drop next (a .s .now)) (rows-length tapWidth k (c .before .before .before .before .before .counted .last .1 .1 .1 .1 .1 .0)) (rw (c .before .before .k .given .1) at (c .before .before .before .before .before .counted .ensures .0))
+    let next = c .before .before .k .given .0 .1 .0 in (
+      at-end (4 + (a .n + a .m) + k) _ (a .s .now) next (c .if1 .left)
+          ∙ taps-go (rowsOf placeWidth (a .n) (a .places)) (rowsOf clipWidth (a .m) (a .clips)) (a .n) (a .m) (rows-length placeWidth (a .n) (a .places)) (rows-length clipWidth (a .m) (a .clips)) (drop (a .at) (a .s .now))
+          (rowsOf tapWidth k (c .before .before .before .before .before .counted .last .1 .1 .1 .1 .1 .0)) k (drop next (a .s .now)) (rows-length tapWidth k (c .before .before .before .before .before .counted .last .1 .1 .1 .1 .1 .0)) (rw (c .before .before .k .given .1) at (c .before .before .before .before .before .counted .ensures .0)),
+      counted-sheet (a .places) (a .n) (a .clips) (a .m) (c .before .before .before .before .before .counted .last .1 .1 .1 .1 .1 .0) k,
+    )
 
 pub from-taps-spec : {M : Type 1} → statement M
 from-taps-spec =

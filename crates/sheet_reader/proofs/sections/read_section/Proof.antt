@@ -36,7 +36,7 @@ same-length c = c .before .before .before .before .loop .inv .long
 returns : tie.Need-returns Inv-loop μ-loop
 returns c = let a = c .before .before .before .before .before .before .before .args in (
   turn-21 (a .kind) (a .n) (a .line) (a .from) (a .s .now) (a .table .now) (c .before .before .before .before .loop .table) (c .before .before .before .before .loop .at) (c .before .before .before .before .loop .i) (c .before .before .before .before .loop .inv)
-      (c .before .before .before .before .before .width-of .result) (c .before .before .before .before .before .width-of .ensures .0) (c .before .before .before .before .before .before .before .pre .0) (c .before .before .before .before .before .before .before .pre .2) (c .before .before .before .before .before .before .before .pre .3) (c .before .before .before .loop-test .taken) (c .before .before .fields-at .result) (c .before .before .fields-at .ensures) (c .if1 .taken),
+      (c .before .before .before .before .before .width-of .result) (c .before .before .before .before .before .width-of .ensures .0) (c .before .before .before .before .before .before .before .pre .0) (c .before .before .before .before .before .before .before .pre .2) (c .before .before .before .before .before .before .before .pre .3) (c .before .before .before .loop-test .taken) (c .before .before .fields-at .result) (c .before .before .fields-at .ensures .0) (c .if1 .taken),
   omega arith,
 )
 
@@ -52,7 +52,7 @@ same-length-2 c = c .before .before .before .before .before .before .before .bef
 returns-2 : tie.Need-returns-2 Inv-loop μ-loop
 returns-2 c = let a = c .before .before .before .before .before .before .before .before .before .before .before .args in (
   turn-22 (a .kind) (a .n) (a .line) (a .from) (a .s .now) (a .table .now) (c .before .before .before .before .before .before .before .before .loop .table) (c .before .before .before .before .before .before .before .before .loop .at) (c .before .before .before .before .before .before .before .before .loop .i) (c .before .before .before .before .before .before .before .before .loop .inv)
-      (c .before .before .before .before .before .before .before .before .before .width-of .result) (c .before .before .before .before .before .before .before .before .before .width-of .ensures .0) (c .before .before .before .before .before .before .before .before .before .before .before .pre .0) (c .before .before .before .before .before .before .before .before .before .before .before .pre .2) (c .before .before .before .before .before .before .before .before .before .before .before .pre .3) (c .before .before .before .before .before .before .before .loop-test .taken) (c .before .before .before .before .before .before .fields-at .result) (c .before .before .before .before .before .before .fields-at .ensures) (c .before .before .before .before .if1 .left)
+      (c .before .before .before .before .before .before .before .before .before .width-of .result) (c .before .before .before .before .before .before .before .before .before .width-of .ensures .0) (c .before .before .before .before .before .before .before .before .before .before .before .pre .0) (c .before .before .before .before .before .before .before .before .before .before .before .pre .2) (c .before .before .before .before .before .before .before .before .before .before .before .pre .3) (c .before .before .before .before .before .before .before .loop-test .taken) (c .before .before .before .before .before .before .fields-at .result) (c .before .before .before .before .before .before .fields-at .ensures .0) (c .before .before .before .before .if1 .left)
       (c .before .in-range .result) (c .before .in-range .ensures) (c .if2 .taken),
   omega arith,
 )
@@ -71,7 +71,7 @@ same-length-3 c = c .before .before .before .before .before .before .before .bef
 returns-3 : tie.Need-returns-3 Inv-loop μ-loop
 returns-3 c = let a = c .before .before .before .before .before .before .before .before .before .before .before .before .before .before .before .args in (
   turn-23 (a .kind) (a .n) (a .line) (a .from) (a .s .now) (a .table .now) (c .before .before .before .before .before .before .before .before .before .before .before .before .loop .table) (c .before .before .before .before .before .before .before .before .before .before .before .before .loop .at) (c .before .before .before .before .before .before .before .before .before .before .before .before .loop .i) (c .before .before .before .before .before .before .before .before .before .before .before .before .loop .inv)
-      (c .before .before .before .before .before .before .before .before .before .before .before .before .before .width-of .result) (c .before .before .before .before .before .before .before .before .before .before .before .before .before .width-of .ensures .0) (c .before .before .before .before .before .before .before .before .before .before .before .before .before .before .before .pre .0) (c .before .before .before .before .before .before .before .before .before .before .before .before .before .before .before .pre .2) (c .before .before .before .before .before .before .before .before .before .before .before .before .before .before .before .pre .3) (c .before .before .before .before .before .before .before .before .before .before .before .loop-test .taken) (c .before .before .before .before .before .before .before .before .before .before .fields-at .result) (c .before .before .before .before .before .before .before .before .before .before .fields-at .ensures) (c .before .before .before .before .before .before .before .before .if1 .left)
+      (c .before .before .before .before .before .before .before .before .before .before .before .before .before .width-of .result) (c .before .before .before .before .before .before .before .before .before .before .before .before .before .width-of .ensures .0) (c .before .before .before .before .before .before .before .before .before .before .before .before .before .before .before .pre .0) (c .before .before .before .before .before .before .before .before .before .before .before .before .before .before .before .pre .2) (c .before .before .before .before .before .before .before .before .before .before .before .before .before .before .before .pre .3) (c .before .before .before .before .before .before .before .before .before .before .before .loop-test .taken) (c .before .before .before .before .before .before .before .before .before .before .fields-at .result) (c .before .before .before .before .before .before .before .before .before .before .fields-at .ensures .0) (c .before .before .before .before .before .before .before .before .if1 .left)
       (c .before .before .before .before .before .in-range .result) (c .before .before .before .before .before .in-range .ensures) (c .before .before .before .before .if2 .left) (c .before .fits-before .result) (c .before .fits-before .ensures) (c .if3 .taken),
   omega arith,
 )
@@ -100,7 +100,7 @@ loop-again : tie.Need-loop-again Inv-loop μ-loop
 loop-again c = let a = c .before .before .before .before .before .before .before .before .before .before .before .before .before .before .before .before .before .before .before .args in
     let r : length (c .before .before .before .before .before .before .before .before .before .before .before .before .before .before .fields-at .result .row) ≡ lineWidth = search needs in
     turn (a .kind) (a .n) (a .line) (a .from) (a .s .now) (a .table .now) (c .before .before .before .before .before .before .before .before .before .before .before .before .before .before .before .before .loop .table) (c .before .before .before .before .before .before .before .before .before .before .before .before .before .before .before .before .loop .at) (c .before .before .before .before .before .before .before .before .before .before .before .before .before .before .before .before .loop .i) (c .before .before .before .before .before .before .before .before .before .before .before .before .before .before .before .before .loop .inv)
-    (c .before .before .before .before .before .before .before .before .before .before .before .before .before .before .before .before .before .width-of .result) (c .before .before .before .before .before .before .before .before .before .before .before .before .before .before .before .before .before .width-of .ensures .0) (c .before .before .before .before .before .before .before .before .before .before .before .before .before .before .before .before .before .before .before .pre .0) (c .before .before .before .before .before .before .before .before .before .before .before .before .before .before .before .before .before .before .before .pre .2) (c .before .before .before .before .before .before .before .before .before .before .before .before .before .before .before .before .before .before .before .pre .3) (c .before .before .before .before .before .before .before .before .before .before .before .before .before .before .before .loop-test .taken) (c .before .before .before .before .before .before .before .before .before .before .before .before .before .before .fields-at .result) (c .before .before .before .before .before .before .before .before .before .before .before .before .before .before .fields-at .ensures) (c .before .before .before .before .before .before .before .before .before .before .before .before .if1 .left)
+    (c .before .before .before .before .before .before .before .before .before .before .before .before .before .before .before .before .before .width-of .result) (c .before .before .before .before .before .before .before .before .before .before .before .before .before .before .before .before .before .width-of .ensures .0) (c .before .before .before .before .before .before .before .before .before .before .before .before .before .before .before .before .before .before .before .pre .0) (c .before .before .before .before .before .before .before .before .before .before .before .before .before .before .before .before .before .before .before .pre .2) (c .before .before .before .before .before .before .before .before .before .before .before .before .before .before .before .before .before .before .before .pre .3) (c .before .before .before .before .before .before .before .before .before .before .before .before .before .before .before .loop-test .taken) (c .before .before .before .before .before .before .before .before .before .before .before .before .before .before .fields-at .result) (c .before .before .before .before .before .before .before .before .before .before .before .before .before .before .fields-at .ensures .0) (c .before .before .before .before .before .before .before .before .before .before .before .before .if1 .left)
     (c .before .before .before .before .before .before .before .before .before .in-range .result) (c .before .before .before .before .before .before .before .before .before .in-range .ensures) (c .before .before .before .before .before .before .before .before .if2 .left) (c .before .before .before .before .before .fits-before .result) (c .before .before .before .before .before .fits-before .ensures) (c .before .put-row .last .0) (c .before .before .before .before .if3 .left) r (c .before .put-row .ensures)
 
 same-length-4 : tie.Need-same-length-4 Inv-loop μ-loop

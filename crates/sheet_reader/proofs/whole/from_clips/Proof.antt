@@ -38,18 +38,22 @@ from-taps-requires c κs = let b : c .before .m .given .0 .0 ≤ c .before .befo
     (c .before .before .before .before .before .before .before .pre, omega (arith, c .before .before .before .before .before .before .before .pre))
 
 returns : tie.Need-returns
-returns c = let a = c .before .before .before .before .before .before .before .before .args in
-    c .refused .ensures
-    ∙ clips-stop (rowsOf placeWidth (a .n) (a .places)) (a .n) (rows-length placeWidth (a .n) (a .places)) (drop (a .at) (a .s .now))
-    (numberOf (c .before .before .why .given .0 .0)) (c .before .before .why .given .0 .1 .0) (rw (c .before .before .why .given .1) at (c .before .before .before .before .before .counted .ensures .0))
+returns c = let a = c .before .before .before .before .before .before .before .before .args in (
+  c .refused .ensures .0
+      ∙ clips-stop (rowsOf placeWidth (a .n) (a .places)) (a .n) (rows-length placeWidth (a .n) (a .places)) (drop (a .at) (a .s .now))
+      (numberOf (c .before .before .why .given .0 .0)) (c .before .before .why .given .0 .1 .0) (rw (c .before .before .why .given .1) at (c .before .before .before .before .before .counted .ensures .0)),
+  c .refused .ensures .1,
+)
 
 returns-2 : tie.Need-returns-2
 returns-2 c = let a = c .before .before .before .before .before .before .before .before .args in
     let m = c .before .before .m .given .0 .0 in
-    let next = c .before .before .m .given .0 .1 .0 in
-    c .from-taps .ensures
-    ∙ clips-go (rowsOf placeWidth (a .n) (a .places)) (a .n) (rows-length placeWidth (a .n) (a .places)) (drop (a .at) (a .s .now))
-    (rowsOf clipWidth m (c .before .before .before .before .before .counted .last .1 .1 .1 .1 .1 .0)) (drop next (a .s .now)) (rw (c .before .before .m .given .1) at (c .before .before .before .before .before .counted .ensures .0))
+    let next = c .before .before .m .given .0 .1 .0 in (
+      c .from-taps .ensures .0
+          ∙ clips-go (rowsOf placeWidth (a .n) (a .places)) (a .n) (rows-length placeWidth (a .n) (a .places)) (drop (a .at) (a .s .now))
+          (rowsOf clipWidth m (c .before .before .before .before .before .counted .last .1 .1 .1 .1 .1 .0)) (drop next (a .s .now)) (rw (c .before .before .m .given .1) at (c .before .before .before .before .before .counted .ensures .0)),
+      c .from-taps .ensures .1,
+    )
 
 pub from-clips-spec : {M : Type 1} → statement M
 from-clips-spec =
