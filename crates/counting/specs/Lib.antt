@@ -1,3 +1,4 @@
 pub mod Times
 pub mod Lists
 pub mod Conditions
+pub mod Joined
