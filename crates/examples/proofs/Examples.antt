@@ -30,7 +30,6 @@ use Rattle.demand3.proofs.Theorem.{demand-3}
 use Rattle.examples.specs.Examples.{told, answers, tapAt, given, exampleSheet, flatRoot, flatChild, callsIn, Flat, Examples}
 use Rattle.examples.proofs.Flat.{no-candidate, not-answered, nothing-hit}
 
-
 -- ---- the rows that go by demand 3: the plan computes them
 
 by-plan : (cs : List Call) (os : List Outcome) → outcomes step outcome empty cs ≡ os → answers cs ≡ os

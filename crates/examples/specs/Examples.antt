@@ -14,7 +14,7 @@ use Rattle.tree_types.specs.declared.NodeFlags.{NodeFlags}
 use Rattle.tree_types.specs.declared.OptionNodeId.the-variants as node
 use Rattle.tree_types.specs.Local.{flags, withTransform}
 use Rattle.index_state.specs.Index as index
-use Rattle.index_state.specs.Run as list
+use Rattle.index_state.specs.Calls as list
 use Rattle.index_rows.proofs.Rows as entries
 use Rattle.tree_state.specs.Tree.{freshTree, positionOf}
 use Rattle.tree_steps.specs.Commit.{commitTree}

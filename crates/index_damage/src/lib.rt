@@ -69,7 +69,7 @@ pub fn union<'a>(
     new: &'a [f64],
     m: usize,
 ) -> Joined
-    ensures { λ u. ⌜ u ≡ spec.unionOf (now (added .entry)) a (now (removed .entry)) r (now (old .entry)) (now (new .entry)) m ⌝ }
+    ensures { λ u. ⌜ spec.joinedTold u ≡ spec.unionOf (now (added .entry)) a (now (removed .entry)) r (now (old .entry)) (now (new .entry)) m ⌝ }
 {
     if (added.len() / 4 < a)
         | (removed.len() / 4 < r)

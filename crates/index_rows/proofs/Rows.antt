@@ -14,16 +14,17 @@ use Rattle.index_types.specs.Boxes.{aabb, aabbEq, containsPoint, overlaps}
 use Rattle.index_types.specs.flat_tables.Tables.{boxAt, putBox, idAt, putId}
 use Rattle.counting.specs.Times.{times, every}
 use Rattle.counting.specs.Lists.{onceBelow}
+use Rattle.counting.specs.Conditions.{lowest, Told, refused, gives, toldIf, leftIf}
 use Rattle.index_sound.specs.Sound.{soundOf}
 use Rattle.index_entries.specs.Entries.{nextGeneration, queueWith, lengthWith, markOf, previousAt, slotFor, usedFor, generationFor}
 use Rattle.index_commit.specs.Commit.{actOf, boxBefore, movedFrom, movedTo, workStep, work}
-use Rattle.index_query.specs.Query.{slots, entries}
+use Rattle.index_query.specs.Query as query
+use Rattle.index_query.specs.Query.{slots}
 use Rattle.index_state.specs.declared.Index.{Index}
-use Rattle.index_state.specs.declared.Inserted.the-variants as inserts
-use Rattle.index_state.specs.declared.Inserted.{Inserted}
-use Rattle.index_state.specs.declared.Committed.the-variants as commits
-use Rattle.index_state.specs.Index.{numberOf, insertedNumber, answerNumber, committedNumber, queriedNumber, refusal, soundIndex, keyOf, live, freshIndex, insertCall, updateCall, removeCall, clearCall, workOf, commitCall, rectSlots, pointSlots, queryAnswer}
-use Rattle.index_state.specs.Run.{Call, insert, update, remove, clear, commit, after, run}
+use Rattle.index_state.specs.declared.Refusal.the-variants as no
+use Rattle.index_state.specs.Index.{soundIndex, keyOf, live, freshIndex, workOf, rectSlots, pointSlots}
+use Rattle.index_state.specs.Calls.{Call, insert, update, remove, clear, commit, query-rect, query-point, refusal, accepted, after, Given, nothing, key, damage, entries, given, told, numberOf}
+use Rattle.index_state.specs.Run.{run}
 
 -- the whole number k, and a box from k to k + 1 both ways
 pub num : ℕ → Float
@@ -48,21 +49,21 @@ pub done : List Call → Index
 done cs = run freshIndex cs
 
 -- the damage that a commit finds: added, removed, moved from, moved to
-pub damage : Index → List (List Aabb2D)
-damage ix = let w = workOf ix in w .added ∷ w .removed ∷ w .old ∷ w .new ∷ []
+pub waiting : Index → List (List Aabb2D)
+waiting ix = let w = workOf ix in w .added ∷ w .removed ∷ w .old ∷ w .new ∷ []
 
 -- after these calls
 pub found : List Call → List (List Aabb2D)
-found cs = damage (done cs)
+found cs = waiting (done cs)
 
--- the key that an insert after these calls gives
-pub next : List Call → Inserted
-next cs = insertCall (done cs) (box 9) (node 9) .answer
+-- what an insert after these calls tells
+pub next : List Call → Told Given
+next cs = told (done cs) (insert (box 9) (node 9))
 
 -- what the rows compute through
 computed : Unit {0}
-unfolding num box node add settle first done damage found next answerNumber entries freshIndex run after insertCall updateCall removeCall clearCall
-    commitCall workOf rectSlots slots soundOf onceBelow every times nextGeneration queueWith lengthWith markOf previousAt slotFor usedFor
+unfolding num box node add settle first done waiting found next query.entries freshIndex run after lowest toldIf leftIf refusal accepted given told
+    workOf rectSlots slots soundOf onceBelow every times nextGeneration queueWith lengthWith markOf previousAt slotFor usedFor
     generationFor actOf boxBefore movedFrom movedTo workStep work boxAt putBox idAt putId aabbEq overlaps round units odd size span climb eq le lt
 computed = tt
 
@@ -79,28 +80,28 @@ p11-p12 = (refl, refl, refl, refl, refl)
 pub rows : (found (add 10 ∷ add 20 ∷ remove first ∷ add 30 ∷ []) ≡ (box 30 ∷ box 20 ∷ []) ∷ [] ∷ [] ∷ [] ∷ [])  -- an emptied slot keeps its place in the queue
     × (found (add 10 ∷ update first (box 20) ∷ []) ≡ (box 20 ∷ []) ∷ [] ∷ [] ∷ [] ∷ [])  -- added, then updated: stays added
     × (found (add 10 ∷ remove first ∷ []) ≡ [] ∷ [] ∷ [] ∷ [] ∷ [])  -- added, then removed: no damage
-    × (next (add 10 ∷ remove first ∷ []) ≡ inserts.Key (keyOf 0 2))  -- and the slot is free at once
+    × (next (add 10 ∷ remove first ∷ []) ≡ gives (key (keyOf 0 2)))  -- and the slot is free at once
     × (found (add 40 ∷ settle ∷ remove first ∷ update first (box 50) ∷ remove first ∷ []) ≡ [] ∷ (box 50 ∷ []) ∷ [] ∷ [] ∷ [])  -- removed, updated, removed: the updated box
     × (found (add 10 ∷ settle ∷ update first (box 20) ∷ remove first ∷ update first (box 30) ∷ []) ≡ [] ∷ [] ∷ (box 10 ∷ []) ∷ (box 30 ∷ []) ∷ [])  -- updated, removed, updated: a move
     × (found (add 10 ∷ settle ∷ update first (box 20) ∷ update first (box 10) ∷ []) ≡ [] ∷ [] ∷ [] ∷ [] ∷ [])  -- updated and set back: nothing
     × (live (done (add 10 ∷ settle ∷ remove first ∷ [])) first ≡ true)  -- a removed key lives until the commit
     × (live (done (add 10 ∷ settle ∷ remove first ∷ settle ∷ [])) first ≡ false)
-    × (next (add 0 ∷ add 1 ∷ add 2 ∷ add 3 ∷ settle ∷ remove (keyOf 2 1) ∷ remove first ∷ remove (keyOf 3 1) ∷ settle ∷ []) ≡ inserts.Key (keyOf 3 2))  -- last freed first
-    × (next (add 10 ∷ settle ∷ clear ∷ []) ≡ inserts.Key first)  -- clear forgets generations
+    × (next (add 0 ∷ add 1 ∷ add 2 ∷ add 3 ∷ settle ∷ remove (keyOf 2 1) ∷ remove first ∷ remove (keyOf 3 1) ∷ settle ∷ []) ≡ gives (key (keyOf 3 2)))  -- last freed first
+    × (next (add 10 ∷ settle ∷ clear ∷ []) ≡ gives (key first))  -- clear forgets generations
     × (rectSlots (done (add 10 ∷ [])) (box 10) ≡ [])  -- added is not visited before the commit
     × (rectSlots (done (add 10 ∷ settle ∷ update first (box 20) ∷ [])) (box 10) ≡ 0 ∷ [])  -- updated is visited at its old box
     × (rectSlots (done (add 10 ∷ settle ∷ [])) (box 11) ≡ 0 ∷ [])  -- boxes that share a corner meet
     × (nextGeneration 4294967295 ≡ 1)
     × (live (done (add 10 ∷ remove first ∷ [])) first ≡ false)  -- added, then removed: the key is dead at once
     × (done (add 10 ∷ remove first ∷ add 20 ∷ remove (keyOf 0 2) ∷ []) .queued ≡ 1)  -- and the slot stands in the queue once
-    × (answerNumber (removeCall (done (add 10 ∷ settle ∷ remove first ∷ [])) first .answer) ≡ 0)  -- a second removal is accepted
+    × (told (done (add 10 ∷ settle ∷ remove first ∷ [])) (remove first) ≡ gives nothing)  -- a second removal is accepted
     × (done (add 10 ∷ settle ∷ remove first ∷ remove first ∷ []) .queued ≡ 1)
     × (found (add 0 ∷ add 1 ∷ add 2 ∷ add 3 ∷ settle ∷ remove (keyOf 2 1) ∷ remove first ∷ remove (keyOf 3 1) ∷ []) ≡ [] ∷ (box 2 ∷ box 0 ∷ box 3 ∷ []) ∷ [] ∷ [] ∷ [])  -- in the queue's order
-    × (next (add 0 ∷ add 1 ∷ add 2 ∷ add 3 ∷ settle ∷ remove (keyOf 2 1) ∷ remove first ∷ remove (keyOf 3 1) ∷ settle ∷ add 4 ∷ []) ≡ inserts.Key (keyOf 0 2))
-    × (next (add 0 ∷ add 1 ∷ add 2 ∷ add 3 ∷ settle ∷ remove (keyOf 2 1) ∷ remove first ∷ remove (keyOf 3 1) ∷ settle ∷ add 4 ∷ add 5 ∷ add 6 ∷ []) ≡ inserts.Key (keyOf 4 1))
+    × (next (add 0 ∷ add 1 ∷ add 2 ∷ add 3 ∷ settle ∷ remove (keyOf 2 1) ∷ remove first ∷ remove (keyOf 3 1) ∷ settle ∷ add 4 ∷ []) ≡ gives (key (keyOf 0 2)))
+    × (next (add 0 ∷ add 1 ∷ add 2 ∷ add 3 ∷ settle ∷ remove (keyOf 2 1) ∷ remove first ∷ remove (keyOf 3 1) ∷ settle ∷ add 4 ∷ add 5 ∷ add 6 ∷ []) ≡ gives (key (keyOf 4 1)))
     × (rectSlots (done (add 10 ∷ settle ∷ update first (box 20) ∷ [])) (box 20) ≡ [])  -- updated is not visited at its new box
     × (rectSlots (done (add 10 ∷ settle ∷ remove first ∷ [])) (box 10) ≡ 0 ∷ [])  -- removed is visited until the commit
-    × (let ix = done (add 10 ∷ settle ∷ remove first ∷ []) in entries (ix .generation) (ix .payload) (rectSlots ix (box 10)) ≡ 0 ∷ 1 ∷ 10 ∷ 1 ∷ [])  -- with its key and payload
+    × (let ix = done (add 10 ∷ settle ∷ remove first ∷ []) in query.entries (ix .generation) (ix .payload) (rectSlots ix (box 10)) ≡ 0 ∷ 1 ∷ 10 ∷ 1 ∷ [])  -- with its key and payload
     × (rectSlots (done (add 10 ∷ settle ∷ remove first ∷ settle ∷ [])) (box 10) ≡ [])
     × (rectSlots (done (add 10 ∷ remove first ∷ settle ∷ [])) (box 10) ≡ [])
     × (live (done (add 10 ∷ settle ∷ clear ∷ add 20 ∷ [])) first ≡ true)  -- after clear an old key lives again
@@ -167,27 +168,30 @@ pub hand-sound : (soundIndex (vacant 1) ≡ true) × (soundIndex (plain 1) ≡ t
 unfolding num box hand vacant plain past brim soundOf onceBelow every times putBox round units odd size span climb
 hand-sound = (refl, refl, refl, refl, refl)
 
-pub hand-made : (damage (vacant 1) ≡ [] ∷ [] ∷ [] ∷ [] ∷ [])  -- a queued slot that is empty does nothing
-    × (commitCall (vacant 1) 2048 2048 2048 2048 ≡ record { answer = commits.Damage 0 0 0; index = vacant 0 })
+pub hand-made : (waiting (vacant 1) ≡ [] ∷ [] ∷ [] ∷ [] ∷ [])  -- a queued slot that is empty does nothing
+    × (told (vacant 1) settle ≡ gives (damage 0 0 0))
+    × (after (vacant 1) settle ≡ vacant 0)
     × (rectSlots (vacant 1) (box 30) ≡ [])  -- nor is it visited, whatever the backend has
-    × (insertCall (vacant 1) (box 40) none .answer ≡ inserts.Key first)
-    × (insertCall (vacant 1) (box 40) none .index .queued ≡ 1)  -- an insert finds it in the queue
-    × (damage (plain 1) ≡ [] ∷ [] ∷ [] ∷ [] ∷ [])  -- a queued entry without a mark does nothing
-    × (commitCall (plain 1) 2048 2048 2048 2048 ≡ record { answer = commits.Damage 0 0 0; index = plain 0 })  -- its box does not reach the backend
-    × (updateCall (plain 1) first (box 40) .index .queued ≡ 1)
-    × (damage (updateCall (plain 1) first (box 40) .index) ≡ [] ∷ [] ∷ (box 10 ∷ []) ∷ (box 40 ∷ []) ∷ [])
-    × (removeCall (plain 1) first .index .queued ≡ 1)
-    × (damage (removeCall (plain 1) first .index) ≡ [] ∷ (box 10 ∷ []) ∷ [] ∷ [] ∷ [])
-    × (commitCall (past 1) 2048 2048 2048 2048 ≡ record { answer = commits.Damage 0 0 0; index = past 0 })  -- a previous box stays on an entry without a mark
-    × (damage (updateCall (past 0) first (box 40) .index) ≡ [] ∷ [] ∷ (box 10 ∷ []) ∷ (box 40 ∷ []) ∷ [])  -- an update replaces it
-    × (damage (removeCall (past 0) first .index) ≡ [] ∷ (box 20 ∷ []) ∷ [] ∷ [] ∷ [])  -- a removal shows it
-    × (answerNumber (updateCall (past 0) first (box 40) .answer) ≡ 0)
-    × (answerNumber (removeCall (past 0) first .answer) ≡ 0)
-    × (answerNumber (removeCall (vacant 1) first .answer) ≡ 10)
-    × (insertedNumber (insertCall brim (box 40) none .answer) ≡ 11)  -- a removed entry takes its slot until the commit
-    × (insertCall (after brim settle) (box 40) none .answer ≡ inserts.Key (keyOf 0 2))
-unfolding computed none hand vacant plain past brim insertedNumber numberOf
-hand-made = (refl, refl, refl, refl, refl, refl, refl, refl, refl, refl, refl, refl, refl, refl, refl, refl, refl, refl, refl)
+    × (told (vacant 1) (insert (box 40) none) ≡ gives (key first))
+    × (after (vacant 1) (insert (box 40) none) .queued ≡ 1)  -- an insert finds it in the queue
+    × (waiting (plain 1) ≡ [] ∷ [] ∷ [] ∷ [] ∷ [])  -- a queued entry without a mark does nothing
+    × (told (plain 1) settle ≡ gives (damage 0 0 0))
+    × (after (plain 1) settle ≡ plain 0)  -- its box does not reach the backend
+    × (after (plain 1) (update first (box 40)) .queued ≡ 1)
+    × (waiting (after (plain 1) (update first (box 40))) ≡ [] ∷ [] ∷ (box 10 ∷ []) ∷ (box 40 ∷ []) ∷ [])
+    × (after (plain 1) (remove first) .queued ≡ 1)
+    × (waiting (after (plain 1) (remove first)) ≡ [] ∷ (box 10 ∷ []) ∷ [] ∷ [] ∷ [])
+    × (told (past 1) settle ≡ gives (damage 0 0 0))
+    × (after (past 1) settle ≡ past 0)  -- a previous box stays on an entry without a mark
+    × (waiting (after (past 0) (update first (box 40))) ≡ [] ∷ [] ∷ (box 10 ∷ []) ∷ (box 40 ∷ []) ∷ [])  -- an update replaces it
+    × (waiting (after (past 0) (remove first)) ≡ [] ∷ (box 20 ∷ []) ∷ [] ∷ [] ∷ [])  -- a removal shows it
+    × (told (past 0) (update first (box 40)) ≡ gives nothing)
+    × (told (past 0) (remove first) ≡ gives nothing)
+    × (told (vacant 1) (remove first) ≡ refused 10)
+    × (told brim (insert (box 40) none) ≡ refused 11)  -- a removed entry takes its slot until the commit
+    × (told (after brim settle) (insert (box 40) none) ≡ gives (key (keyOf 0 2)))
+unfolding computed none hand vacant plain past brim
+hand-made = (refl, refl, refl, refl, refl, refl, refl, refl, refl, refl, refl, refl, refl, refl, refl, refl, refl, refl, refl, refl, refl, refl)
 
 -- what the rows above leave open: removed twice, a previous box after its commit, slots in order, keys of a slot that is used again
 pub further : (found (add 40 ∷ settle ∷ remove first ∷ remove first ∷ []) ≡ [] ∷ (box 40 ∷ []) ∷ [] ∷ [] ∷ [])  -- removed twice is removed
@@ -197,15 +201,15 @@ pub further : (found (add 40 ∷ settle ∷ remove first ∷ remove first ∷ []
     × (rectSlots (done (add 10 ∷ add 11 ∷ add 30 ∷ settle ∷ [])) (aabb (num 9) (num 9) (num 12) (num 12)) ≡ 0 ∷ 1 ∷ [])  -- slots rising
     × (rectSlots (done (add 10 ∷ settle ∷ [])) (box 9) ≡ 0 ∷ [])  -- low edges meet too
     × (live (done (add 10 ∷ remove first ∷ add 20 ∷ [])) first ≡ false)  -- a stale key
-    × (answerNumber (updateCall (done (add 10 ∷ remove first ∷ add 20 ∷ [])) first (box 30) .answer) ≡ 10)
-    × (next (add 0 ∷ add 1 ∷ add 2 ∷ add 3 ∷ settle ∷ remove (keyOf 2 1) ∷ remove first ∷ remove (keyOf 3 1) ∷ settle ∷ add 4 ∷ add 5 ∷ []) ≡ inserts.Key (keyOf 2 2))  -- first freed, last used
-unfolding computed numberOf
+    × (told (done (add 10 ∷ remove first ∷ add 20 ∷ [])) (update first (box 30)) ≡ refused 10)
+    × (next (add 0 ∷ add 1 ∷ add 2 ∷ add 3 ∷ settle ∷ remove (keyOf 2 1) ∷ remove first ∷ remove (keyOf 3 1) ∷ settle ∷ add 4 ∷ add 5 ∷ []) ≡ gives (key (keyOf 2 2)))  -- first freed, last used
+unfolding computed
 further = (refl, refl, refl, refl, refl, refl, refl, refl, refl)
 
 -- slots above 256, and a payload whose generation is not its key's
-pub wide : (insertCall (hand (set (replicate 512 1) 511 0) 0 511 0) (box 40) none .answer ≡ inserts.Key (keyOf 511 1))
+pub wide : (told (hand (set (replicate 512 1) 511 0) 0 511 0) (insert (box 40) none) ≡ gives (key (keyOf 511 1)))
     × (live (hand (set (replicate 512 1) 511 0) 0 511 0) (keyOf 300 1) ≡ true)
-    × (entries (done (insert (box 10) (record { 0 = 10; 1 = 7 }) ∷ settle ∷ []) .generation) (done (insert (box 10) (record { 0 = 10; 1 = 7 }) ∷ settle ∷ []) .payload) (0 ∷ []) ≡ 0 ∷ 1 ∷ 10 ∷ 7 ∷ [])
+    × (query.entries (done (insert (box 10) (record { 0 = 10; 1 = 7 }) ∷ settle ∷ []) .generation) (done (insert (box 10) (record { 0 = 10; 1 = 7 }) ∷ settle ∷ []) .payload) (0 ∷ []) ≡ 0 ∷ 1 ∷ 10 ∷ 7 ∷ [])
 unfolding computed hand
 wide = (refl, refl, refl)
 
@@ -237,27 +241,28 @@ pub unsound : (soundIndex (broken 1 0 (replicate 512 0) 1 (replicate 512 0) 2) �
     × (soundIndex (broken 0 0 (replicate 512 0) 0 (replicate 512 0) 1) ≡ false)  -- an entry beyond what is used
     × (soundIndex (broken 0 0 (replicate 512 0) 1 (replicate 512 600) 0) ≡ false)  -- no slot in the queue
     × (soundIndex (broken 513 0 (replicate 512 0) 0 (replicate 512 0) 0) ≡ false)
-    × (insertedNumber (insertCall (broken 0 1 (replicate 512 0) 0 (replicate 512 0) 0) (box 10) none .answer) ≡ 1)
-    × (answerNumber (updateCall (broken 0 1 (replicate 512 0) 0 (replicate 512 0) 0) first (box 10) .answer) ≡ 1)
-    × (answerNumber (removeCall (broken 0 1 (replicate 512 0) 0 (replicate 512 0) 0) first .answer) ≡ 1)
-    × (answerNumber (clearCall (broken 0 1 (replicate 512 0) 0 (replicate 512 0) 0) .answer) ≡ 1)
-    × (committedNumber (commitCall (broken 0 1 (replicate 512 0) 0 (replicate 512 0) 0) 0 0 0 0 .answer) ≡ 1)
-    × (queriedNumber (queryAnswer (broken 0 1 (replicate 512 0) 0 (replicate 512 0) 0) [] 0) ≡ 1)
-unfolding computed broken insertedNumber committedNumber queriedNumber queryAnswer numberOf
-unsound = (refl, refl, refl, refl, refl, refl, refl, refl, refl, refl, refl, refl, refl, refl, refl, refl)
+    × (told (broken 0 1 (replicate 512 0) 0 (replicate 512 0) 0) (insert (box 10) none) ≡ refused 1)
+    × (told (broken 0 1 (replicate 512 0) 0 (replicate 512 0) 0) (update first (box 10)) ≡ refused 1)
+    × (told (broken 0 1 (replicate 512 0) 0 (replicate 512 0) 0) (remove first) ≡ refused 1)
+    × (told (broken 0 1 (replicate 512 0) 0 (replicate 512 0) 0) clear ≡ refused 1)
+    × (told (broken 0 1 (replicate 512 0) 0 (replicate 512 0) 0) (commit 0 0 0 0) ≡ refused 1)
+    × (told (broken 0 1 (replicate 512 0) 0 (replicate 512 0) 0) (query-rect (box 10) 0) ≡ refused 1)
+    × (told (broken 0 1 (replicate 512 0) 0 (replicate 512 0) 0) (query-point zero zero 0) ≡ refused 1)
+unfolding computed none broken pointSlots
+unsound = (refl, refl, refl, refl, refl, refl, refl, refl, refl, refl, refl, refl, refl, refl, refl, refl, refl)
 
 -- 8, for each of the four rooms and for a query's
-pub short-rooms : (committedNumber (commitCall freshIndex 2047 2048 2048 2048 .answer) ≡ 8)
-    × (committedNumber (commitCall freshIndex 2048 2047 2048 2048 .answer) ≡ 8)
-    × (committedNumber (commitCall freshIndex 2048 2048 2047 2048 .answer) ≡ 8)
-    × (committedNumber (commitCall freshIndex 2048 2048 2048 2047 .answer) ≡ 8)
-    × (committedNumber (commitCall freshIndex 2048 2048 2048 2048 .answer) ≡ 0)
-    × (queriedNumber (queryAnswer freshIndex [] 2047) ≡ 8)
-    × (queriedNumber (queryAnswer freshIndex [] 2048) ≡ 0)
-unfolding freshIndex commitCall queryAnswer committedNumber queriedNumber numberOf soundOf onceBelow every times
-short-rooms = (refl, refl, refl, refl, refl, refl, refl)
+pub short-rooms : (told freshIndex (commit 2047 2048 2048 2048) ≡ refused 8)
+    × (told freshIndex (commit 2048 2047 2048 2048) ≡ refused 8)
+    × (told freshIndex (commit 2048 2048 2047 2048) ≡ refused 8)
+    × (told freshIndex (commit 2048 2048 2048 2047) ≡ refused 8)
+    × (told freshIndex (commit 2048 2048 2048 2048) ≡ gives (damage 0 0 0))
+    × (told freshIndex (query-rect (box 10) 2047) ≡ refused 8)
+    × (told freshIndex (query-point zero zero 2047) ≡ refused 8)
+    × (told freshIndex (query-rect (box 10) 2048) ≡ gives (entries 0))
+unfolding computed pointSlots
+short-rooms = (refl, refl, refl, refl, refl, refl, refl, refl)
 
--- the refusals have document 01's numbers
-pub numbers : (numberOf (refusal 1) ≡ 1) × (numberOf (refusal 8) ≡ 8) × (numberOf (refusal 10) ≡ 10) × (numberOf (refusal 11) ≡ 11)
-unfolding numberOf
+-- document 01's number of each refusal
+pub numbers : (numberOf no.Unsound ≡ 1) × (numberOf no.ShortRoom ≡ 8) × (numberOf no.DeadKey ≡ 10) × (numberOf no.Full ≡ 11)
 numbers = (refl, refl, refl, refl)

@@ -11,7 +11,6 @@ use lib.Dec.{eqb}
 use lib.ListN.{getD, set, length-set}
 use lib.Seq.{getD-set-same, getD-set-other}
 use lib.Ieee.{Float}
-use Rattle.numbers.proofs.Bools.{split}
 use Rattle.index_types.specs.declared.Aabb2D.{Aabb2D}
 use Rattle.index_types.specs.declared.NodeId.{NodeId}
 use Rattle.index_types.specs.declared.Key.{Key}
@@ -21,6 +20,7 @@ use Rattle.index_types.proofs.flat_tables.Laws.{box-other}
 use Rattle.counting.specs.Times.{tally, times}
 use Rattle.counting.proofs.Counting.{hit, miss, times-append}
 use Rattle.counting.proofs.Kit.{contra}
+use Rattle.counting.proofs.Conditions.{left-keeps}
 use Rattle.counting.proofs.Counts.{zero-at}
 use Rattle.index_entries.specs.declared.reads.Mark.{Mark}
 use Rattle.index_entries.specs.declared.reads.Mark.the-variants as is
@@ -34,10 +34,12 @@ use Rattle.index_commit.proofs.Agree.{own-work}
 use Rattle.index_commit.specs.Agree.{Has, unseen, Agree}
 use Rattle.index_query.specs.Query.{slots}
 use Rattle.index_state.specs.declared.Index.{Index}
-use Rattle.index_state.specs.Index.{full, freshIndex, slotOf, insertOf, live, markAt, updateOf, removeOf, short, workOf, commitOf, rectSlots, pointSlots}
-use Rattle.index_state.specs.Run.{Call, insert, update, remove, clear, commit, query-rect, query-point, after, run}
+use Rattle.index_state.specs.Index.{full, freshIndex, slotOf, insertOf, live, markAt, updateOf, removeOf, workOf, commitOf, rectSlots, pointSlots}
+use Rattle.index_state.specs.Calls.{Call, insert, update, remove, clear, commit, query-rect, query-point, short, refusal, accepted, after}
+use Rattle.index_state.specs.Run.{run}
 use Rattle.index_state.specs.Claims.{Own, Visited}
-use Rattle.index_state.proofs.Soundness.{Kept, counts, room-left, fresh-kept, after-kept, run-kept, insert-full, insert-room, update-live, update-dead, remove-live, remove-dead, clear-all, commit-short, commit-long}
+use Rattle.index_state.proofs.Calls.{accepts, commit-long}
+use Rattle.index_state.proofs.Soundness.{Kept, counts, room-left, fresh-kept, after-kept, run-kept, insert-accepted, update-accepted, remove-accepted}
 
 -- a slot that gets a mark, or is emptied, asks that it had a box before if it has to have one now; the others are as they were
 pub away : (mark present : List ℕ) (boxes aabb aabb' : List Float) (x v : ℕ) → x < 512 → (v ≡ 1 → ⊥) → unseen (getD mark x 0) ≡ unseen v → ((y : ℕ) → (y ≡ x → ⊥) → boxAt aabb' y ≡ boxAt aabb y)
@@ -119,27 +121,19 @@ fresh-own : Own freshIndex
 unfolding freshIndex
 fresh-own = record { mark-whole = refl; present-whole = refl; boxes-whole = refl; own = λ x e. absurd (omega (arith, zero-at 512 x)); none = λ x. rw (zero-at 512 x) }
 
+accepted-own : (ix : Index) (c : Call) → Kept ix → Own ix → refusal ix c ≡ 0 → Own (accepted ix c)
+unfolding accepted
+accepted-own ix (insert b p) K O e = insert-own ix K O b p (insert-accepted ix b p e)
+accepted-own ix (update k b) K O e = update-own ix K O k b (update-accepted ix k b e)
+accepted-own ix (remove k) K O e = remove-own ix K O k (remove-accepted ix k e)
+accepted-own ix clear K O e = fresh-own
+accepted-own ix (commit a r o n) K O e = commit-own ix K O
+accepted-own ix (query-rect rect len) K O e = O
+accepted-own ix (query-point x y len) K O e = O
+
 after-own : (ix : Index) (c : Call) → Kept ix → Own ix → Own (after ix c)
 unfolding after
-after-own ix (insert b p) K O =
-    split (full ix)
-    (λ (h : full ix ≡ true). subst Own (sym (insert-full ix (K .sound) b p h)) O)
-    (λ (h : full ix ≡ false). subst Own (sym (insert-room ix (K .sound) b p h)) (insert-own ix K O b p h))
-after-own ix (update k b) K O =
-    split (live ix k)
-    (λ (h : live ix k ≡ true). subst Own (sym (update-live ix (K .sound) k b h)) (update-own ix K O k b h))
-    (λ (h : live ix k ≡ false). subst Own (sym (update-dead ix (K .sound) k b h)) O)
-after-own ix (remove k) K O =
-    split (live ix k)
-    (λ (h : live ix k ≡ true). subst Own (sym (remove-live ix (K .sound) k h)) (remove-own ix K O k h))
-    (λ (h : live ix k ≡ false). subst Own (sym (remove-dead ix (K .sound) k h)) O)
-after-own ix clear K O = subst Own (sym (clear-all ix (K .sound))) fresh-own
-after-own ix (commit a r o n) K O =
-    split (short a r o n)
-    (λ (h : short a r o n ≡ true). subst Own (sym (commit-short ix (K .sound) a r o n h)) O)
-    (λ (h : short a r o n ≡ false). subst Own (sym (commit-long ix (K .sound) a r o n h)) (commit-own ix K O))
-after-own ix (query-rect rect n) K O = O
-after-own ix (query-point x y n) K O = O
+after-own ix c K O = left-keeps Own (refusal ix c) ix (accepted ix c) O (accepted-own ix c K O)
 
 run-own : (ix : Index) (cs : List Call) → Kept ix → Own ix → Own (run ix cs)
 unfolding run
@@ -153,14 +147,14 @@ own-from-fresh cs = run-own freshIndex cs fresh-kept fresh-own
 -- so after an accepted commit every entry has
 pub own-after-commit : (cs : List Call) (a r o n : ℕ) → short a r o n ≡ false → let ix = after (run freshIndex cs) (commit a r o n) in
     (x : ℕ) → (getD (ix .mark) x 0 ≡ 0 → ⊥) → Has (ix .backend .present) (ix .backend .boxes) (ix .aabb) x
-unfolding after
+unfolding accepted
 own-after-commit cs a r o n h x e =
     let ix = run freshIndex cs in
     let K = run-kept freshIndex cs fresh-kept in
-    let c = commit-long ix (K .sound) a r o n h in
+    let c = accepts ix (commit a r o n) (commit-long ix (rw (K .sound)) a r o n h) .1 in
     let O : Own (commitOf ix (workOf ix)) = commit-own ix K (own-from-fresh cs) in
     let p = commit-plain ix K (own-from-fresh cs) x in
-    subst (λ (z : Index). Has (z .backend .present) (z .backend .boxes) (z .aabb) x) (sym c) (O .own x (plain p (λ z. e (subst (λ (y : Index). getD (y .mark) x 0 ≡ 0) (sym c) z))))
+    subst (λ (z : Index). Has (z .backend .present) (z .backend .boxes) (z .aabb) x) c (O .own x (plain p (λ z. e (subst (λ (y : Index). getD (y .mark) x 0 ≡ 0) c z))))
   where
     plain : {m : ℕ} → m < 2 → (m ≡ 0 → ⊥) → m ≡ 1
     plain l g = omega arith

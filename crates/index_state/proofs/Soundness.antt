@@ -1,14 +1,17 @@
 -- Every call keeps the index sound, so from fresh no call ever meets refusal 1. Soundness says among the rest that the queue never has a
 -- repeat, and that each marked entry stands in it.
-use mathlib.Core.Path.{_≡_, refl, sym, _∙_, subst}
-use mathlib.Core.Bool.{Bool, true, false, cond}
+use mathlib.Core.Path.{_≡_, refl, _∙_}
+use mathlib.Core.Bool.{Bool, true, false, not, cond}
 use mathlib.Core.List.{List, [], _∷_}
 use Prim.Native.Nat.{ℕ, _<_}
-use borrow.Author.Tests.{eq-eqb, leb-false}
+use native.Mathlib.Omega.{arith}
+use borrow.Author.Tests.{eq-eqb, leb-false, not-true}
 use lib.Dec.{ltb}
 use lib.ListN.{length, take, set, length-set}
 use Rattle.counting.specs.Times.{times, every}
 use Rattle.counting.specs.Lists.{onceBelow}
+use Rattle.counting.specs.Conditions.{accept, _else_then_, lowest}
+use Rattle.counting.proofs.Conditions.{first-holds, left-keeps}
 use Rattle.index_types.specs.declared.Aabb2D.{Aabb2D}
 use Rattle.index_types.specs.declared.NodeId.{NodeId}
 use Rattle.index_types.specs.declared.Key.{Key}
@@ -22,10 +25,10 @@ use Rattle.index_entries.proofs.Keep.{keep-insert, keep-update, keep-remove}
 use Rattle.index_commit.proofs.Keep.{keep-commit, commit-whole}
 use Rattle.index_commit.specs.Commit.{start}
 use Rattle.index_state.specs.declared.Index.{Index}
-use Rattle.index_state.specs.Index.{soundIndex, full, freshIndex, slotOf, insertOf, insertCall, live, markAt, updateOf, updateCall, removeOf, removeCall, clearCall, short, workOf, commitOf, commitCall}
-use Rattle.index_state.specs.Run.{Call, insert, update, remove, clear, commit, query-rect, query-point, after, run}
+use Rattle.index_state.specs.Index.{soundIndex, full, freshIndex, slotOf, insertOf, live, markAt, updateOf, removeOf, workOf, commitOf}
+use Rattle.index_state.specs.Calls.{Call, insert, update, remove, clear, commit, query-rect, query-point, refusal, accepted, after}
+use Rattle.index_state.specs.Run.{run}
 use Rattle.index_state.specs.Claims.{Shaped}
-use Rattle.numbers.proofs.Bools.{split}
 
 -- the shape of the tables, and the test of soundness passed
 pub record Kept (ix : Index) : Type 0 where
@@ -110,67 +113,39 @@ pub fresh-kept : Kept freshIndex
 unfolding freshIndex soundOf onceBelow every times
 fresh-kept = record { shaped = record { mark-whole = refl; free-whole = refl; dirty-whole = refl }; sound = refl }
 
--- ---- what a call leaves, by its tests
+-- ---- an accepted call's conditions hold
 
-module _ (ix : Index) (S : soundIndex ix ≡ true) where
-  pub insert-full : (b : Aabb2D) (p : NodeId) → full ix ≡ true → insertCall ix b p .index ≡ ix
-  unfolding insertCall
-  insert-full b p h = rw (insertCall, S, h)
+second-holds : (a b : Bool) (n : ℕ) → (n ≡ 0 → ⊥) → lowest (a else 1 then b else n then accept) ≡ 0 → b ≡ true
+second-holds a b n d e = first-holds b n accept d (first-holds a 1 (b else n then accept) (λ z. omega arith) e .1) .0
 
-  pub insert-room : (b : Aabb2D) (p : NodeId) → full ix ≡ false → insertCall ix b p .index ≡ insertOf ix b p
-  unfolding insertCall
-  insert-room b p h = rw (insertCall, S, h)
+module _ (ix : Index) where
+  pub insert-accepted : (b : Aabb2D) (p : NodeId) → refusal ix (insert b p) ≡ 0 → full ix ≡ false
+  unfolding refusal
+  insert-accepted b p e = not-true (full ix) (second-holds (soundIndex ix) (not (full ix)) 11 (λ z. omega arith) e)
 
-  pub update-live : (k : Key) (b : Aabb2D) → live ix k ≡ true → updateCall ix k b .index ≡ updateOf ix (k .0) b
-  unfolding updateCall
-  update-live k b h = rw (updateCall, S, h)
+  pub update-accepted : (k : Key) (b : Aabb2D) → refusal ix (update k b) ≡ 0 → live ix k ≡ true
+  unfolding refusal
+  update-accepted k b e = second-holds (soundIndex ix) (live ix k) 10 (λ z. omega arith) e
 
-  pub update-dead : (k : Key) (b : Aabb2D) → live ix k ≡ false → updateCall ix k b .index ≡ ix
-  unfolding updateCall
-  update-dead k b h = rw (updateCall, S, h)
+  pub remove-accepted : (k : Key) → refusal ix (remove k) ≡ 0 → live ix k ≡ true
+  unfolding refusal
+  remove-accepted k e = second-holds (soundIndex ix) (live ix k) 10 (λ z. omega arith) e
 
-  pub remove-live : (k : Key) → live ix k ≡ true → removeCall ix k .index ≡ removeOf ix (k .0)
-  unfolding removeCall
-  remove-live k h = rw (removeCall, S, h)
+-- ---- every call keeps soundness
 
-  pub remove-dead : (k : Key) → live ix k ≡ false → removeCall ix k .index ≡ ix
-  unfolding removeCall
-  remove-dead k h = rw (removeCall, S, h)
+accepted-kept : (ix : Index) (c : Call) → Kept ix → refusal ix c ≡ 0 → Kept (accepted ix c)
+unfolding accepted
+accepted-kept ix (insert b p) K e = insert-keeps ix K b p (insert-accepted ix b p e)
+accepted-kept ix (update k b) K e = update-keeps ix K k b (update-accepted ix k b e)
+accepted-kept ix (remove k) K e = remove-keeps ix K k (remove-accepted ix k e)
+accepted-kept ix clear K e = fresh-kept
+accepted-kept ix (commit a r o n) K e = commit-keeps ix K
+accepted-kept ix (query-rect rect len) K e = K
+accepted-kept ix (query-point x y len) K e = K
 
-  pub clear-all : clearCall ix .index ≡ freshIndex
-  unfolding clearCall
-  clear-all = rw (clearCall, S)
-
-  pub commit-short : (a r o n : ℕ) → short a r o n ≡ true → commitCall ix a r o n .index ≡ ix
-  unfolding commitCall
-  commit-short a r o n h = rw (commitCall, S, h)
-
-  pub commit-long : (a r o n : ℕ) → short a r o n ≡ false → commitCall ix a r o n .index ≡ commitOf ix (workOf ix)
-  unfolding commitCall
-  commit-long a r o n h = rw (commitCall, S, h)
-
--- every call keeps soundness
 pub after-kept : (ix : Index) (c : Call) → Kept ix → Kept (after ix c)
 unfolding after
-after-kept ix (insert b p) K =
-    split (full ix)
-    (λ (h : full ix ≡ true). subst Kept (sym (insert-full ix (K .sound) b p h)) K)
-    (λ (h : full ix ≡ false). subst Kept (sym (insert-room ix (K .sound) b p h)) (insert-keeps ix K b p h))
-after-kept ix (update k b) K =
-    split (live ix k)
-    (λ (h : live ix k ≡ true). subst Kept (sym (update-live ix (K .sound) k b h)) (update-keeps ix K k b h))
-    (λ (h : live ix k ≡ false). subst Kept (sym (update-dead ix (K .sound) k b h)) K)
-after-kept ix (remove k) K =
-    split (live ix k)
-    (λ (h : live ix k ≡ true). subst Kept (sym (remove-live ix (K .sound) k h)) (remove-keeps ix K k h))
-    (λ (h : live ix k ≡ false). subst Kept (sym (remove-dead ix (K .sound) k h)) K)
-after-kept ix clear K = subst Kept (sym (clear-all ix (K .sound))) fresh-kept
-after-kept ix (commit a r o n) K =
-    split (short a r o n)
-    (λ (h : short a r o n ≡ true). subst Kept (sym (commit-short ix (K .sound) a r o n h)) K)
-    (λ (h : short a r o n ≡ false). subst Kept (sym (commit-long ix (K .sound) a r o n h)) (commit-keeps ix K))
-after-kept ix (query-rect rect n) K = K
-after-kept ix (query-point x y n) K = K
+after-kept ix c K = left-keeps Kept (refusal ix c) ix (accepted ix c) K (accepted-kept ix c K)
 
 pub run-kept : (ix : Index) (cs : List Call) → Kept ix → Kept (run ix cs)
 unfolding run

@@ -1,3 +1,4 @@
 pub mod Index
+pub mod Calls
 pub mod Run
 pub mod Claims

@@ -26,7 +26,7 @@ pub struct Index {
     pub backend: FlatVec,
 }
 
-// Why a call is refused; `spec.numberOf` has document 01's numbers.
+// Why a call is refused; `numberOf` in specs/Calls.antt has document 01's numbers.
 pub enum Refusal {
     Unsound,
     ShortRoom,

@@ -1,12 +1,14 @@
 -- Every call, by its name and arguments, lent room as it stands before the call; its refusal on the plan, what it leaves of the plan, and what it
 -- tells. Of lent room the plan hears the length alone.
 use Prim.Native.Nat.{ℕ, zero, suc}
-use mathlib.Core.Bool.{Bool, not, cond}
+use mathlib.Core.Bool.{Bool, not}
 use mathlib.Core.List.{List}
 use lib.Dec.{ltb}
 use lib.Ieee.{Float}
 use lib.IntN.{ℤ}
 use lib.ListN.{length}
+pub use Rattle.counting.specs.Conditions.{Conditions, accept, _else_then_}
+unfoldable pub use Rattle.counting.specs.Conditions.{lowest}
 use Rattle.geometry.specs.declared.point.Point.{Point}
 use Rattle.geometry.specs.declared.rect.Rect.{Rect}
 use Rattle.geometry.specs.declared.insets.Insets.{Insets}
@@ -59,16 +61,7 @@ pub data Call : Type 0 where
   read : Reading → Call
   request : Request → NodeFlags → List ℕ → Call  -- with the flags it asks for and its room
 
--- ---- "The lowest number that applies is given": of the conditions in a row, the number of the first that fails, or 0
-
-infixr 20 _else_then_
-pub data Conditions : Type 0 where
-  accept : Conditions
-  _else_then_ : Bool → ℕ → Conditions → Conditions
-
-unfoldable pub lowest : Conditions → ℕ
-lowest accept = 0
-lowest (holds else n then rest) = cond holds (lowest rest) n
+-- ---- what refuses a call, by document 01's numbers
 
 -- 8, by a room's length in numbers: under 512 rectangles of four, under 256 ids of two
 abbrev pub roomForRects : ℕ → Bool

@@ -9,11 +9,13 @@ use Rattle.index_types.specs.Boxes.{aabb}
 use Rattle.index_types.specs.flat_tables.Tables.{idAt}
 use Rattle.counting.specs.Times.{times, every}
 use Rattle.counting.specs.Lists.{onceBelow}
+use Rattle.counting.specs.Conditions.{lowest, leftIf}
 use Rattle.link_forest.specs.Table.{atDepth}
 use Rattle.index_sound.specs.Sound.{soundOf}
 use Rattle.index_commit.specs.Commit as damage
 use Rattle.index_query.specs.Query as query
-use Rattle.index_state.specs.Index.{freshIndex, queryRoom}
+use Rattle.index_state.specs.Index.{freshIndex}
+use Rattle.index_state.specs.Calls.{queryRoom}
 use Rattle.tree_types.specs.declared.OptionNodeId.the-variants as node
 use Rattle.plan.proofs.Rows.{num, id, ten, a, b}
 use Rattle.tree_state.specs.declared.Tree.{Tree}
@@ -56,7 +58,7 @@ pub entries : (query.entriesInFront [] room ≡ room)
     × (query.entriesInFront (query.entries (1 ∷ 2 ∷ []) (10 ∷ 11 ∷ 12 ∷ 13 ∷ []) (1 ∷ [])) room ≡ 1 ∷ 2 ∷ 12 ∷ 13 ∷ 9 ∷ [])
     × (queryRoom freshIndex (0 ∷ []) room ≡ room)  -- refused: room for fewer than 512 entries
     × (queryRoom freshIndex (0 ∷ []) (replicate 2049 7) ≡ 0 ∷ 0 ∷ 0 ∷ 0 ∷ replicate 2045 7)
-unfolding query.entries idAt room queryRoom freshIndex soundOf onceBelow every times
+unfolding query.entries idAt room queryRoom lowest leftIf freshIndex soundOf onceBelow every times
 entries = (refl, refl, refl, refl)
 
 -- children: a node with one child

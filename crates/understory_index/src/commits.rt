@@ -2,7 +2,7 @@
 // leaves the rooms as they were and returns the index as it was given.
 ghost use mathlib.Core.Path.{_≡_};
 ghost use lib.ListN.{length};
-ghost use Rattle.index_state.specs.Index as spec;
+ghost use Rattle.index_state.specs.Calls as spec;
 use index_state::AfterCommit;
 use index_state::Committed;
 use index_state::FlatVec;
@@ -25,8 +25,10 @@ pub fn commit(
     old: &mut [f64],
     new: &mut [f64],
 ) -> AfterCommit
-    ensures answer { λ r. ⌜ r ≡ spec.commitCall ix (length (now (added .entry))) (length (now (removed .entry)))
-        (length (now (old .entry))) (length (now (new .entry))) ⌝ }
+    ensures answer { λ r. ⌜ spec.committedTold (r .answer) ≡ spec.told ix (spec.commit (length (now (added .entry)))
+        (length (now (removed .entry))) (length (now (old .entry))) (length (now (new .entry)))) ⌝ }
+    ensures index { λ r. ⌜ r .index ≡ spec.after ix (spec.commit (length (now (added .entry)))
+        (length (now (removed .entry))) (length (now (old .entry))) (length (now (new .entry)))) ⌝ }
     ensures rooms { λ r. ⌜ spec.CommitRooms ix (now (added .entry)) (now (removed .entry)) (now (old .entry)) (now (new .entry))
         (now (added .exit)) (now (removed .exit)) (now (old .exit)) (now (new .exit)) ⌝ }
 {

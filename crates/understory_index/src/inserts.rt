@@ -1,7 +1,7 @@
 // The index's calls that insert and clear, by value (document 01, modules 4 and 5): understory_index's index.rs. Every call takes every
 // index and box; a refused one returns the index as it was given.
 ghost use mathlib.Core.Path.{_≡_};
-ghost use Rattle.index_state.specs.Index as spec;
+ghost use Rattle.index_state.specs.Calls as spec;
 use index_state::After;
 use index_state::AfterInsert;
 use index_state::Answer;
@@ -13,7 +13,8 @@ use index_types::Key;
 use index_types::NodeId;
 
 pub fn insert(ix: Index, aabb: Aabb2D, payload: NodeId) -> AfterInsert
-    ensures { λ r. ⌜ r ≡ spec.insertCall ix aabb payload ⌝ }
+    ensures answer { λ r. ⌜ spec.insertedTold (r .answer) ≡ spec.told ix (spec.insert aabb payload) ⌝ }
+    ensures index { λ r. ⌜ r .index ≡ spec.after ix (spec.insert aabb payload) ⌝ }
 {
     let frees = ix.frees;
     let queued = ix.queued;
@@ -74,7 +75,8 @@ pub fn insert(ix: Index, aabb: Aabb2D, payload: NodeId) -> AfterInsert
 
 // Empties the index, generations included, without damage.
 pub fn clear(ix: Index) -> After
-    ensures { λ r. ⌜ r ≡ spec.clearCall ix ⌝ }
+    ensures answer { λ r. ⌜ spec.answerTold (r .answer) ≡ spec.told ix spec.clear ⌝ }
+    ensures index { λ r. ⌜ r .index ≡ spec.after ix spec.clear ⌝ }
 {
     let frees = ix.frees;
     let queued = ix.queued; // asked for soundness alone

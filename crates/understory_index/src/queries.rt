@@ -2,7 +2,8 @@
 // call leaves the room as it was.
 ghost use mathlib.Core.Path.{_≡_};
 ghost use lib.ListN.{length};
-ghost use Rattle.index_state.specs.Index as spec;
+ghost use Rattle.index_state.specs.Calls as spec;
+ghost use Rattle.index_state.specs.Index.{rectSlots, pointSlots};
 use index_state::Index;
 use index_state::Queried;
 use index_state::Refusal;
@@ -10,8 +11,8 @@ use index_types::Aabb2D;
 
 // Lists the entries whose boxes, as the last commit left them, meet the rectangle, all edges in; in rising slot order.
 pub fn query_rect(ix: Index, rect: Aabb2D, room: &mut [u32]) -> Queried
-    ensures answer { λ r. ⌜ r ≡ spec.queryAnswer ix (spec.rectSlots ix rect) (length (now (room .entry))) ⌝ }
-    ensures rooms { λ _. ⌜ now (room .exit) ≡ spec.queryRoom ix (spec.rectSlots ix rect) (now (room .entry)) ⌝ }
+    ensures answer { λ r. ⌜ spec.queriedTold r ≡ spec.told ix (spec.query-rect rect (length (now (room .entry)))) ⌝ }
+    ensures rooms { λ _. ⌜ now (room .exit) ≡ spec.queryRoom ix (rectSlots ix rect) (now (room .entry)) ⌝ }
 {
     let frees = ix.frees;
     let queued = ix.queued;
@@ -35,8 +36,8 @@ pub fn query_rect(ix: Index, rect: Aabb2D, room: &mut [u32]) -> Queried
 
 // Lists the entries whose boxes contain the point, all edges in: a point is a rectangle of no size.
 pub fn query_point(ix: Index, x: f64, y: f64, room: &mut [u32]) -> Queried
-    ensures answer { λ r. ⌜ r ≡ spec.queryAnswer ix (spec.pointSlots ix x y) (length (now (room .entry))) ⌝ }
-    ensures rooms { λ _. ⌜ now (room .exit) ≡ spec.queryRoom ix (spec.pointSlots ix x y) (now (room .entry)) ⌝ }
+    ensures answer { λ r. ⌜ spec.queriedTold r ≡ spec.told ix (spec.query-point x y (length (now (room .entry)))) ⌝ }
+    ensures rooms { λ _. ⌜ now (room .exit) ≡ spec.queryRoom ix (pointSlots ix x y) (now (room .entry)) ⌝ }
 {
     query_rect(ix, Aabb2D::new(x, y, x, y), room)
 }

@@ -1,7 +1,7 @@
 // The index's calls that change an entry, by value (document 01, modules 4 and 5): understory_index's index.rs. Every call takes every
 // index, key and box; a refused one returns the index as it was given.
 ghost use mathlib.Core.Path.{_≡_};
-ghost use Rattle.index_state.specs.Index as spec;
+ghost use Rattle.index_state.specs.Calls as spec;
 use index_entries::Found;
 use index_state::After;
 use index_state::Answer;
@@ -12,7 +12,8 @@ use index_types::Key;
 
 // Gives an entry another box. A key that is marked removed and not yet committed is not dead: the entry lives again.
 pub fn update(ix: Index, key: Key, aabb: Aabb2D) -> After
-    ensures { λ r. ⌜ r ≡ spec.updateCall ix key aabb ⌝ }
+    ensures answer { λ r. ⌜ spec.answerTold (r .answer) ≡ spec.told ix (spec.update key aabb) ⌝ }
+    ensures index { λ r. ⌜ r .index ≡ spec.after ix (spec.update key aabb) ⌝ }
 {
     let frees = ix.frees;
     let queued = ix.queued;
@@ -72,7 +73,8 @@ pub fn update(ix: Index, key: Key, aabb: Aabb2D) -> After
 
 // Marks an entry removed; one that was only added goes at once, and its slot is freed.
 pub fn remove(ix: Index, key: Key) -> After
-    ensures { λ r. ⌜ r ≡ spec.removeCall ix key ⌝ }
+    ensures answer { λ r. ⌜ spec.answerTold (r .answer) ≡ spec.told ix (spec.remove key) ⌝ }
+    ensures index { λ r. ⌜ r .index ≡ spec.after ix (spec.remove key) ⌝ }
 {
     let frees = ix.frees;
     let queued = ix.queued;

@@ -1,10 +1,41 @@
--- The slot that an insert takes, by cases of the free list.
-use mathlib.Core.Path.{_≡_}
+-- The next generation; and the slot that an insert takes, by cases of the free list.
+use mathlib.Core.Path.{_≡_, refl, sym, _∙_}
 use mathlib.Core.List.{List}
-use Prim.Native.Nat.{ℕ, _+_, _-_}
+use Prim.Native.Nat.{ℕ, _+_, _-_, _%_, _^_, _<_}
+use native.Mathlib.Decide.{ℕ-discrete}
+use native.Mathlib.Nat.{mod-eq-of-lt}
+use native.Mathlib.Omega.{arith}
 use borrow.Author.Tests.{eq-eqb, ne-eqb}
 use lib.ListN.{getD}
 use Rattle.index_entries.specs.slots.Slots.{nextGeneration, slotFor, usedFor, generationFor}
+
+-- "goes up by one", but for the last
+pub last-generation : nextGeneration 4294967295 ≡ 1
+unfolding nextGeneration
+last-generation = refl
+
+pub one-up : (g : ℕ) → (g ≡ 4294967295 → ⊥) → nextGeneration g ≡ g + 1
+unfolding nextGeneration
+one-up g n = rw (nextGeneration, ne-eqb g 4294967295 n)
+
+-- "never 0"
+pub never-0 : (g : ℕ) → nextGeneration g ≡ 0 → ⊥
+never-0 g z =
+    elim (ℕ-discrete g 4294967295) [
+      | yes e ↦ omega (arith, last-generation, rw e at z)
+      | no n ↦ omega (arith, one-up g n)
+    ]
+
+-- a wrapping add of one, with zero skipped
+module _ (g w : ℕ) (fits : g < 2 ^ 32) (wraps : w ≡ (g + 1) % 2 ^ 32) where
+  unwrapped : (g ≡ 4294967295 → ⊥) → w ≡ g + 1
+  unwrapped n = wraps ∙ mod-eq-of-lt (omega arith)
+
+  pub wrapped-next : w ≡ 0 → 1 ≡ nextGeneration g
+  wrapped-next z = elim (ℕ-discrete g 4294967295) [ yes e ↦ rw e (sym last-generation) | no n ↦ absurd (omega (arith, unwrapped n)) ]
+
+  pub added-next : (w ≡ 0 → ⊥) → w ≡ nextGeneration g
+  added-next f = elim (ℕ-discrete g 4294967295) [ yes e ↦ absurd (f (wraps ∙ rw e refl)) | no n ↦ unwrapped n ∙ sym (one-up g n) ]
 
 module _ (generation free : List ℕ) (frees used : ℕ) where
   pub slot-unused : frees ≡ 0 → slotFor free frees used ≡ used

@@ -1,5 +1,5 @@
 -- The slots of the index: generations, the queue of dirty slots, and the slot that an insert takes (document 01, module 5).
-use Prim.Native.Nat.{ℕ, _+_, _-_, _%_, _^_}
+use Prim.Native.Nat.{ℕ, _+_, _-_}
 use mathlib.Core.Bool.{Bool, cond}
 use mathlib.Core.List.{List}
 use lib.Dec.{ltb, eqb}
@@ -8,7 +8,7 @@ use Rattle.counting.specs.Times.{times}
 
 -- "Its generation goes up by one past 4,294,967,295 to 1, never 0."
 unfoldable pub nextGeneration : ℕ → ℕ
-nextGeneration g = cond (eqb ((g + 1) % 2 ^ 32) 0) 1 ((g + 1) % 2 ^ 32)
+nextGeneration g = cond (eqb g 4294967295) 1 (g + 1)
 
 -- x stands among the first n
 abbrev pub stands : ℕ → List ℕ → ℕ → Bool

@@ -1,11 +1,13 @@
 -- the tables' lengths
 use mathlib.Core.Path.{_≡_, sym, _∙_}
 use Prim.Native.Nat.{_<_}
+use mathlib.Core.Bool.{false, not}
 use lib.ListN.{length}
 use borrow.Author.Tests.{eq-eqb, leb-false, not-false}
 use borrow.Author.Needs.{needs}
-use Rattle.index_state.proofs.Calls.{insert-done}
-use Rattle.index_state.specs.Index.{insertCall}
+use Rattle.index_state.proofs.Calls.{unsound, insert-full, refuses, insert-done}
+use Rattle.index_state.specs.Index.{soundIndex}
+use Rattle.index_state.specs.Calls.{insert}
 use Rattle.index_entries.proofs.Keep.{queue-of, queue-room, slot-fits}
 use Rattle.index_sound.proofs.Exact.{count-tells}
 use Rattle.index_sound.specs.Sound.{CountOf}
@@ -27,12 +29,16 @@ is-sound-requires : tie.Need-is-sound-requires
 is-sound-requires c κs = search needs
 
 returns : tie.Need-returns
-unfolding insertCall
-returns c = rw (insertCall, ← c .before .is-sound .ensures, c .if1 .taken)
+returns c =
+    let A = c .before .before .before .before .before .before .before .before .before .before .before .before .before .before .args in
+    let call = insert (A .aabb) (A .payload) in
+    refuses (A .ix) call 0 (unsound (A .ix) (rw (← c .before .is-sound .ensures) (c .if1 .taken)) call)
 
 returns-2 : tie.Need-returns-2
-unfolding insertCall
-returns-2 c = rw (insertCall, ← c .before .before .is-sound .ensures, c .before .if1 .left, c .if2 .taken)
+returns-2 c =
+    let A = c .before .before .before .before .before .before .before .before .before .before .before .before .before .before .before .args in
+    let S : not (soundIndex (A .ix)) ≡ false = rw (← c .before .before .is-sound .ensures) (c .before .if1 .left) in
+    refuses (A .ix) (insert (A .aabb) (A .payload)) 10 (insert-full (A .ix) S (A .aabb) (A .payload) (c .if2 .taken))
 
 -- a slot is left
 room-here : (c : tie.Else2) → let ix = c .before .before .before .before .before .before .before .before .before .before .before .before .before .before .before .args .ix in ix .frees ≡ 0 → ix .used < 512
