@@ -1,13 +1,14 @@
 -- Document 01's examples P1 to P12, a row each, as one theorem. Rows about taps, ids and refusals speak of the tree's own run from fresh and go by
 -- demand 3, so the plan computes them.
-use mathlib.Core.Path.{_≡_, refl, _∙_}
+use mathlib.Core.Path.{_≡_, refl, ap, _∙_}
 use mathlib.Core.Bool.{true, false}
 use mathlib.Core.List.{List, [], _∷_}
 use Prim.Native.Nat.{ℕ}
-use lib.ListN.{getD}
+use lib.ListN.{length, getD}
 use lib.Ieee.{binary64, round}
 use Rattle.numbers.specs.Rounded.{zero}
 use Rattle.geometry.specs.declared.point.Point.{Point}
+use Rattle.geometry.specs.declared.rect.Rect.{Rect}
 use Rattle.geometry.specs.Rectangle.{rect}
 use Rattle.index_types.specs.declared.NodeId.{NodeId}
 use Rattle.tree_types.specs.declared.NodeFlags.{NodeFlags}
@@ -16,9 +17,12 @@ use Rattle.tree_types.specs.Local.{flags}
 use Rattle.index_state.specs.Index as index
 use Rattle.index_state.specs.Run as list
 use Rattle.index_rows.proofs.Rows as entries
-use Rattle.tree_state.specs.Tree.{freshTree, positionOf}
-use Rattle.tree_steps.specs.Commit.{commitTree}
-use Rattle.tree_steps.specs.Readings.{childrenOf, nextOf}
+use Rattle.tree_state.specs.Tree.{freshTree, positionOf, checked, checkedNext}
+use Rattle.tree_commit.specs.declared.Committed.the-variants as commits
+use Rattle.tree_commit.specs.Commit.{afterWork, commitCall}
+use Rattle.tree_readings.specs.declared.answers.AnswerNode.the-variants as link
+use Rattle.tree_readings.specs.answers.Answers as reads
+use Rattle.tree_run.specs.Told.{childrenTold}
 use Rattle.tree_run.specs.Run as tree
 use Rattle.tree_rows.proofs.Rows.{after}
 use Rattle.tree_rows.proofs.damage.Damage as rows
@@ -26,7 +30,7 @@ use Rattle.plan.specs.Plan.{Plan, empty}
 use Rattle.plan.specs.Afresh.{worldBounds, candidate, nothing, hit}
 use Rattle.plan.specs.Calls as call
 use Rattle.plan.specs.Calls.{Call, Outcome, step, outcome}
-use Rattle.plan.specs.Demand.{Answer, tapped, run, outcomes, answer}
+use Rattle.plan.specs.Demand.{Answer, tapped, listed, run, outcomes, answer}
 use Rattle.plan.proofs.Cases as cases
 use Rattle.plan.proofs.Rows.{num, point, id, root, child, words, settle, a, b, c, halfClip}
 use Rattle.sheet_format.specs.Sheet as sheet
@@ -34,7 +38,11 @@ use Rattle.sheet_format.specs.Sheet.{readSheet}
 use Rattle.sheet_calls.proofs.Rows as sheets
 use Rattle.sheet_calls.specs.Calls.{callsOf}
 use Rattle.sheet_calls.specs.Answers.{bytes, output}
+use Rattle.agreement_calls.proofs.Tests.{held-accepted}
+use Rattle.agreement_calls.proofs.Fresh.{known-fresh}
 use Rattle.demand3.proofs.Theorem.{demand-3}
+use Rattle.demand3.proofs.Readings.{accepted}
+use Rattle.demand3.proofs.Links.{children-told}
 use Rattle.examples.proofs.Flat.{Flat, no-candidate}
 
 -- ---- words for the rows: a run of the tree from fresh
@@ -50,6 +58,10 @@ answers cs = outcomes tree.step tree.outcome freshTree cs
 abbrev pub tapAt : List Call → Point → Answer
 tapAt cs pt = tree.answer (after cs) (flags 3) (words 512) (call.hit-test-point pt)
 
+-- a node's children, read back from the room
+abbrev pub childrenAt : List Call → NodeId → Answer
+childrenAt cs i = childrenTold (reads.childrenCall (after cs) i 512) (reads.childrenRoom (after cs) i (words 512))
+
 -- the id that an insert hands out
 abbrev pub given : NodeId → Outcome
 given i = record { refused = 0; told = call.id i }
@@ -64,7 +76,7 @@ callsIn (sheet.sheet s) = callsOf s
 
 pub record Examples : Type 0 where
   -- Fresh tree: commit gives no damage.
-  pub p1 : commitTree freshTree .damage ≡ []
+  pub p1 : commitCall freshTree 2048 .answer ≡ commits.Damage 0
   -- First insert: id (0, 1); committed depth 1.
   pub p2 : (answers (root ∷ settle ∷ []) ≡ given (id 0 1) ∷ told 0 ∷ [])
       × (getD (after (root ∷ settle ∷ []) .links .depth) (positionOf (after (root ∷ settle ∷ [])) 0) 0 ≡ 1)
@@ -75,7 +87,7 @@ pub record Examples : Type 0 where
   pub p4 : answers (root ∷ child a ∷ call.reparent a (node.Some b) ∷ call.reparent a (node.Some a) ∷ [])
       ≡ given a ∷ given b ∷ told 4 ∷ told 4 ∷ []
   -- Children B, C; B reparented to the same parent: C, B.
-  pub p5 : childrenOf (after (root ∷ child a ∷ child a ∷ call.reparent b (node.Some a) ∷ [])) 0 ≡ c ∷ b ∷ []
+  pub p5 : childrenAt (root ∷ child a ∷ child a ∷ call.reparent b (node.Some a) ∷ []) a ≡ listed (c ∷ b ∷ [])
   -- The sheet above: place 2 has world box 80, 0, 100, 40; and its answers.
   pub p6 : (worldBounds (run step empty (callsIn (readSheet exampleSheet))) 1 ≡ rect (num 80) zero (num 100) (num 40))
       × (output exampleSheet ≡ bytes "4\n1 2 2\n2 2 2\n3 1 1\n4 0 0\n")
@@ -91,7 +103,7 @@ pub record Examples : Type 0 where
   -- Equal level and depth: (0, 2) beats (1, 1).
   pub p9 : tapAt (root ∷ root ∷ call.remove a ∷ root ∷ settle ∷ []) (point 5 5) ≡ tapped (hit (id 0 2) (id 0 2 ∷ []))
   -- After the last leaf of a root, `next_depth_first` gives none.
-  pub p10 : nextOf (after (root ∷ child a ∷ root ∷ [])) 1 ≡ node.None
+  pub p10 : reads.nextCall (after (root ∷ child a ∷ root ∷ [])) b ≡ link.None
   -- Index: committed entry removed, then updated, commit: it lives with the new box and no damage.
   pub p11 : let calls = entries.add 10 ∷ entries.settle ∷ list.remove entries.first ∷ list.update entries.first (entries.box 20) ∷ [] in
       (entries.found calls ≡ [] ∷ [] ∷ [] ∷ [] ∷ [])
@@ -153,6 +165,18 @@ unfolding cases.computed halfClip
 taps-7 =
     (tap-by-plan halfClip (point 10 10) (tapped (hit a (a ∷ []))) refl, tap-by-plan halfClip (record { x = round binary64 false 21 2; y = num 10 }) (tapped nothing) refl)
 
+no-damage-1 : commitCall freshTree 2048 .answer ≡ commits.Damage 0
+unfolding commitCall afterWork checked checkedNext
+no-damage-1 = rw (held-accepted freshTree empty known-fresh) (ap (λ (l : List Rect). commits.Damage (length l)) rows.p1)
+
+children-5 : childrenAt (root ∷ child a ∷ child a ∷ call.reparent b (node.Some a) ∷ []) a ≡ listed (c ∷ b ∷ [])
+unfolding after cases.computed
+children-5 = children-told (root ∷ child a ∷ child a ∷ call.reparent b (node.Some a) ∷ []) a (words 512) ∙ refl
+
+next-10 : reads.nextCall (after (root ∷ child a ∷ root ∷ [])) b ≡ link.None
+unfolding after cases.computed reads.nodeIf reads.linkOf
+next-10 = rw (accepted (root ∷ child a ∷ root ∷ []) (call.next-depth-first b) refl, rows.p10 .0)
+
 tap-9 : tapAt (root ∷ root ∷ call.remove a ∷ root ∷ settle ∷ []) (point 5 5) ≡ tapped (hit (id 0 2) (id 0 2 ∷ []))
 unfolding cases.computed
 tap-9 = tap-by-plan (root ∷ root ∷ call.remove a ∷ root ∷ settle ∷ []) (point 5 5) (tapped (hit (id 0 2) (id 0 2 ∷ []))) refl
@@ -162,16 +186,16 @@ tap-9 = tap-by-plan (root ∷ root ∷ call.remove a ∷ root ∷ settle ∷ [])
 pub examples : Examples
 examples =
     record {
-      p1 = rows.p1;
+      p1 = no-damage-1;
       p2 = (ids-2, rows.p2);
       p3 = ids-3;
       p4 = refused-4;
-      p5 = rows.p5;
+      p5 = children-5;
       p6 = (sheet-6 .0, sheet-6 .1, sheet-taps .0, sheet-taps .1, sheet-taps .2, sheet-taps .3);
       p7 = taps-7;
       p8 = no-candidate;
       p9 = tap-9;
-      p10 = rows.p10 .0;
+      p10 = next-10;
       p11 = (entries.p11-p12 .0, entries.p11-p12 .1, entries.p11-p12 .2, entries.p11-p12 .3);
       p12 = entries.p11-p12 .4;
     }
