@@ -7,27 +7,38 @@ use lib.ListN.{length}
 use lib.Ieee.{binary64, round}
 use Rattle.numbers.specs.Rounded.{zero}
 use Rattle.geometry.specs.declared.point.Point.{Point}
+use Rattle.geometry.specs.declared.rect.Rect.{Rect}
 use Rattle.geometry.specs.Rectangle.{rect}
 use Rattle.tree_types.specs.declared.NodeFlags.{NodeFlags}
 use Rattle.index_types.specs.declared.NodeId.{NodeId}
 use Rattle.tree_types.specs.declared.OptionNodeId.the-variants as node
 use Rattle.tree_types.specs.Local.{flags}
 use Rattle.index_rows.proofs.Rows as entries
+use Rattle.tree_state.specs.Tree.{freshTree, checked, checkedNext}
+use Rattle.tree_commit.specs.declared.Committed.the-variants as commits
+use Rattle.tree_commit.specs.Commit.{afterWork, commitCall}
+use Rattle.tree_readings.specs.declared.answers.AnswerNode.the-variants as link
+use Rattle.tree_readings.specs.answers.Answers as reads
+use Rattle.tree_run.specs.Run as tree
 use Rattle.tree_rows.proofs.Rows.{after}
 use Rattle.tree_rows.proofs.damage.Damage as rows
-use Rattle.plan.specs.Plan.{empty}
+use Rattle.plan.specs.Plan.{Plan, empty}
 use Rattle.plan.specs.Afresh.{worldBounds, nothing, hit, tap}
 use Rattle.plan.specs.Calls as call
 use Rattle.plan.specs.Calls.{Call, Outcome, lowest, conditionsOfRequest, step, outcome}
-use Rattle.plan.specs.Demand.{Answer, tapped, run, outcomes, answerIf, answer}
+use Rattle.plan.specs.Demand.{Answer, tapped, listed, run, outcomes, answerIf, answer}
 use Rattle.plan.proofs.Redaction.{redacted-same}
 use Rattle.plan.proofs.Cases as cases
-use Rattle.plan.proofs.Rows.{num, point, id, root, child, words, settle, a, b, halfClip}
+use Rattle.plan.proofs.Rows.{num, point, id, root, child, words, settle, a, b, c, halfClip}
 use Rattle.sheet_format.specs.Sheet.{readSheet}
 use Rattle.sheet_calls.proofs.Rows as sheets
 use Rattle.sheet_calls.specs.Answers.{bytes, output}
+use Rattle.agreement_calls.proofs.Tests.{held-accepted}
+use Rattle.agreement_calls.proofs.Fresh.{known-fresh}
 use Rattle.demand3.proofs.Theorem.{demand-3}
-use Rattle.examples.specs.Examples.{told, answers, tapAt, given, exampleSheet, flatRoot, flatChild, callsIn, Flat, Examples}
+use Rattle.demand3.proofs.Readings.{accepted}
+use Rattle.demand3.proofs.Links.{children-told}
+use Rattle.examples.specs.Examples.{told, answers, tapAt, childrenAt, given, exampleSheet, flatRoot, flatChild, callsIn, Flat, Examples}
 use Rattle.examples.proofs.Flat.{no-candidate, not-answered, nothing-hit}
 
 -- ---- the rows that go by demand 3: the plan computes them
@@ -107,6 +118,18 @@ before-8 : tapAt (root ∷ flatChild ∷ settle ∷ []) (point 5 5) ≡ tapped (
 unfolding cases.computed
 before-8 = tap-by-plan (root ∷ flatChild ∷ settle ∷ []) (point 5 5) (tapped (hit a (a ∷ []))) refl
 
+no-damage-1 : commitCall freshTree 2048 .answer ≡ commits.Damage 0
+unfolding commitCall afterWork checked checkedNext
+no-damage-1 = rw (held-accepted freshTree empty known-fresh) (ap (λ (l : List Rect). commits.Damage (length l)) rows.p1)
+
+children-5 : childrenAt (root ∷ child a ∷ child a ∷ call.reparent b (node.Some a) ∷ []) a ≡ listed (c ∷ b ∷ [])
+unfolding after cases.computed
+children-5 = children-told (root ∷ child a ∷ child a ∷ call.reparent b (node.Some a) ∷ []) a (words 512) ∙ refl
+
+next-10 : reads.nextCall (after (root ∷ child a ∷ root ∷ [])) b ≡ link.None
+unfolding after cases.computed reads.nodeIf reads.linkOf
+next-10 = rw (accepted (root ∷ child a ∷ root ∷ []) (call.next-depth-first b) refl, rows.p10 .0)
+
 tap-9 : tapAt (root ∷ root ∷ call.remove a ∷ root ∷ settle ∷ []) (point 5 5) ≡ tapped (hit (id 0 2) (id 0 2 ∷ []))
 unfolding cases.computed
 tap-9 = tap-by-plan (root ∷ root ∷ call.remove a ∷ root ∷ settle ∷ []) (point 5 5) (tapped (hit (id 0 2) (id 0 2 ∷ []))) refl
@@ -116,16 +139,16 @@ tap-9 = tap-by-plan (root ∷ root ∷ call.remove a ∷ root ∷ settle ∷ [])
 pub examples : Examples
 examples =
     record {
-      p1 = rows.p1;
+      p1 = no-damage-1;
       p2 = (ids-2, rows.p2);
       p3 = ids-3;
       p4 = refused-4;
-      p5 = rows.p5;
+      p5 = children-5;
       p6 = (sheet-6 .0, sheet-6 .1, sheet-taps .0, sheet-taps .1, sheet-taps .2, sheet-taps .3);
       p7 = taps-7;
       p8 = (no-candidate, never-8, alone-8, before-8);
       p9 = tap-9;
-      p10 = rows.p10 .0;
+      p10 = next-10;
       p11 = (entries.p11-p12 .0, entries.p11-p12 .1, entries.p11-p12 .2, entries.p11-p12 .3);
       p12 = entries.p11-p12 .4;
     }

@@ -17,15 +17,18 @@ use Rattle.index_state.specs.Index as index
 use Rattle.index_state.specs.Calls as list
 use Rattle.index_rows.proofs.Rows as entries
 use Rattle.tree_state.specs.Tree.{freshTree, positionOf}
-use Rattle.tree_steps.specs.Commit.{commitTree}
-use Rattle.tree_steps.specs.Readings.{childrenOf, nextOf}
+use Rattle.tree_commit.specs.declared.Committed.the-variants as commits
+use Rattle.tree_commit.specs.Commit.{commitCall}
+use Rattle.tree_readings.specs.declared.answers.AnswerNode.the-variants as link
+use Rattle.tree_readings.specs.answers.Answers as reads
+use Rattle.tree_run.specs.Told.{childrenTold}
 use Rattle.tree_run.specs.Run as tree
 use Rattle.tree_rows.proofs.Rows.{after}
 use Rattle.plan.specs.Plan.{Plan, empty}
 use Rattle.plan.specs.Afresh.{worldBounds, candidate, nothing, hit}
 use Rattle.plan.specs.Calls as call
 use Rattle.plan.specs.Calls.{Call, Outcome, step, outcome}
-use Rattle.plan.specs.Demand.{Answer, tapped, run, outcomes}
+use Rattle.plan.specs.Demand.{Answer, tapped, listed, run, outcomes}
 use Rattle.plan.proofs.Rows.{num, point, id, ten, root, child, words, settle, a, b, c, halfClip}
 use Rattle.sheet_format.specs.Sheet as sheet
 use Rattle.sheet_format.specs.Sheet.{readSheet}
@@ -44,6 +47,10 @@ answers cs = outcomes tree.step tree.outcome freshTree cs
 -- a tap of visible, pickable nodes
 abbrev pub tapAt : List Call → Point → Answer
 tapAt cs pt = tree.answer (after cs) (flags 3) (words 512) (call.hit-test-point pt)
+
+-- a node's children, read back from the room
+abbrev pub childrenAt : List Call → NodeId → Answer
+childrenAt cs i = childrenTold (reads.childrenCall (after cs) i 512) (reads.childrenRoom (after cs) i (words 512))
 
 -- the id that an insert hands out
 abbrev pub given : NodeId → Outcome
@@ -77,7 +84,7 @@ pub record Flat (t : Affine) : Type 0 where
 
 pub record Examples : Type 0 where
   -- Fresh tree: commit gives no damage.
-  pub p1 : commitTree freshTree .damage ≡ []
+  pub p1 : commitCall freshTree 2048 .answer ≡ commits.Damage 0
   -- First insert: id (0, 1); committed depth 1.
   pub p2 : (answers (root ∷ settle ∷ []) ≡ given (id 0 1) ∷ told 0 ∷ [])
       × (getD (after (root ∷ settle ∷ []) .links .depth) (positionOf (after (root ∷ settle ∷ [])) 0) 0 ≡ 1)
@@ -88,7 +95,7 @@ pub record Examples : Type 0 where
   pub p4 : answers (root ∷ child a ∷ call.reparent a (node.Some b) ∷ call.reparent a (node.Some a) ∷ [])
       ≡ given a ∷ given b ∷ told 4 ∷ told 4 ∷ []
   -- Children B, C; B reparented to the same parent: C, B.
-  pub p5 : childrenOf (after (root ∷ child a ∷ child a ∷ call.reparent b (node.Some a) ∷ [])) 0 ≡ c ∷ b ∷ []
+  pub p5 : childrenAt (root ∷ child a ∷ child a ∷ call.reparent b (node.Some a) ∷ []) a ≡ listed (c ∷ b ∷ [])
   -- The sheet above: place 2 has world box 80, 0, 100, 40; and its answers.
   pub p6 : (worldBounds (run step empty (callsIn (readSheet exampleSheet))) 1 ≡ rect (num 80) zero (num 100) (num 40))
       × (output exampleSheet ≡ bytes "4\n1 2 2\n2 2 2\n3 1 1\n4 0 0\n")
@@ -109,7 +116,7 @@ pub record Examples : Type 0 where
   -- Equal level and depth: (0, 2) beats (1, 1).
   pub p9 : tapAt (root ∷ root ∷ call.remove a ∷ root ∷ settle ∷ []) (point 5 5) ≡ tapped (hit (id 0 2) (id 0 2 ∷ []))
   -- After the last leaf of a root, `next_depth_first` gives none.
-  pub p10 : nextOf (after (root ∷ child a ∷ root ∷ [])) 1 ≡ node.None
+  pub p10 : reads.nextCall (after (root ∷ child a ∷ root ∷ [])) b ≡ link.None
   -- Index: committed entry removed, then updated, commit: it lives with the new box and no damage.
   pub p11 : let calls = entries.add 10 ∷ entries.settle ∷ list.remove entries.first ∷ list.update entries.first (entries.box 20) ∷ [] in
       (entries.found calls ≡ [] ∷ [] ∷ [] ∷ [] ∷ [])

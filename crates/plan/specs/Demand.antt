@@ -45,6 +45,8 @@ unfoldable pub answer : Plan → NodeFlags → List ℕ → Request → Answer
 answer p asked room q = answerIf (lowest (conditionsOfRequest p asked (length room))) (defined (redact asked p) asked q)
 
 pub record Demand3 (Tree : Type 0) (fresh : Tree) (step : Tree → Call → Tree) (outcome : Tree → Call → Outcome) (answers : Tree → NodeFlags → List ℕ → Request → Answer) : Type 0 where
+  -- of the whole list: each call's number, or 0, and what it tells, readings and requests among them
   pub alike : (calls : List Call) → outcomes step outcome fresh calls ≡ outcomes call.step call.outcome empty calls
+  -- and of any request after it, for any flags and with any room: its number, or what is found
   pub answered : (calls : List Call) (asked : NodeFlags) (room : List ℕ) (q : Request)
       → answers (run step fresh calls) asked room q ≡ answer (run call.step empty calls) asked room q
