@@ -22,7 +22,7 @@ use Rattle.index_query.specs.Query as query
 use Rattle.index_query.proofs.Visits.{point-slots}
 use Rattle.index_state.specs.declared.Index.{Index}
 use Rattle.index_state.specs.Index.{soundIndex, full, slotOf, generationOf, keyOf, live, workOf, rectSlots, pointSlots}
-use Rattle.index_state.specs.Calls.{Call, insert, update, remove, clear, commit, query-rect, query-point, short, roomForEntries, conditionsOfQuery, refusal, accepted, after, nothing, key, damage, entries, given, told, commitRefusal, CommitRooms, queryRoom}
+use Rattle.index_state.specs.Calls.{Call, insert, update, remove, clear, commit, query-rect, query-point, short, conditionsOfQuery, refusal, accepted, after, nothing, key, damage, entries, given, told, commitRefusal, CommitRooms, queryRoom}
 
 -- ---- a refusal's number, by the call's tests
 
@@ -105,20 +105,20 @@ module _ (ix : Index) (b : Aabb2D) (p : NodeId) where
       → aabb ≡ putBox (ix .aabb) s b → kept ≡ set (ix .kept) s 0 → used ≡ usedFor (ix .frees) (ix .used) → frees ≡ ix .frees - 1
       → dirty ≡ queueWith (ix .dirty) (ix .queued) s → queued ≡ lengthWith (ix .dirty) (ix .queued) s
       → (gives (key (keyOf s g)) ≡ told ix (insert b p))
-        × (record {
-          generation = generation;
-          mark = mark;
-          payload = payload;
-          aabb = aabb;
-          kept = kept;
-          prev = ix .prev;
-          used = used;
-          free = ix .free;
-          frees = frees;
-          dirty = dirty;
-          queued = queued;
-          backend = ix .backend;
-        } ≡ after ix (insert b p))
+      × (record {
+        generation = generation;
+        mark = mark;
+        payload = payload;
+        aabb = aabb;
+        kept = kept;
+        prev = ix .prev;
+        used = used;
+        free = ix .free;
+        frees = frees;
+        dirty = dirty;
+        queued = queued;
+        backend = ix .backend;
+      } ≡ after ix (insert b p))
   unfolding given accepted
   insert-done S F s g generation mark payload aabb kept used frees dirty queued es eg e1 e2 e3 e4 e5 e6 e7 e8 e9 =
       let A = accepts ix (insert b p) (insert-fits ix S b p F) in
@@ -137,20 +137,20 @@ module _ (ix : Index) (k : Key) where
       → dirty ≡ cond (unmarked (e .mark)) (queueWith (ix .dirty) (ix .queued) (k .0)) (ix .dirty)
       → queued ≡ cond (unmarked (e .mark)) (lengthWith (ix .dirty) (ix .queued) (k .0)) (ix .queued)
       → (gives nothing ≡ told ix (update k b))
-        × (record {
-          generation = ix .generation;
-          mark = mark;
-          payload = ix .payload;
-          aabb = aabb;
-          kept = kept;
-          prev = prev;
-          used = ix .used;
-          free = ix .free;
-          frees = ix .frees;
-          dirty = dirty;
-          queued = queued;
-          backend = ix .backend;
-        } ≡ after ix (update k b))
+      × (record {
+        generation = ix .generation;
+        mark = mark;
+        payload = ix .payload;
+        aabb = aabb;
+        kept = kept;
+        prev = prev;
+        used = ix .used;
+        free = ix .free;
+        frees = ix .frees;
+        dirty = dirty;
+        queued = queued;
+        backend = ix .backend;
+      } ≡ after ix (update k b))
   unfolding given accepted
   update-done b S L e mark aabb kept prev dirty queued ee e1 e2 e3 e4 e5 e6 =
       let A = accepts ix (update k b) (update-live ix S k b L) in
@@ -164,20 +164,20 @@ module _ (ix : Index) (k : Key) where
       → dirty ≡ cond (unmarked (e .mark)) (queueWith (ix .dirty) (ix .queued) (k .0)) (ix .dirty)
       → queued ≡ cond (unmarked (e .mark)) (lengthWith (ix .dirty) (ix .queued) (k .0)) (ix .queued)
       → (gives nothing ≡ told ix (remove k))
-        × (record {
-          generation = ix .generation;
-          mark = mark;
-          payload = ix .payload;
-          aabb = ix .aabb;
-          kept = ix .kept;
-          prev = ix .prev;
-          used = ix .used;
-          free = free;
-          frees = frees;
-          dirty = dirty;
-          queued = queued;
-          backend = ix .backend;
-        } ≡ after ix (remove k))
+      × (record {
+        generation = ix .generation;
+        mark = mark;
+        payload = ix .payload;
+        aabb = ix .aabb;
+        kept = ix .kept;
+        prev = ix .prev;
+        used = ix .used;
+        free = free;
+        frees = frees;
+        dirty = dirty;
+        queued = queued;
+        backend = ix .backend;
+      } ≡ after ix (remove k))
   unfolding given accepted
   remove-done S L e mark free frees dirty queued ee e1 e2 e3 e4 e5 =
       let A = accepts ix (remove k) (remove-live ix S k L) in
