@@ -1,5 +1,5 @@
 -- The refusals of a call: what its number says of its conditions, of what it tells and of what it leaves.
-use mathlib.Core.Path.{_≡_, refl, sym, _∙_, ap, subst}
+use mathlib.Core.Path.{_≡_, refl, sym, _∙_, ap}
 use mathlib.Core.Bool.{Bool, true, false}
 use Prim.Native.Nat.{ℕ, zero, suc}
 use Rattle.counting.specs.Conditions.{Conditions, _else_then_, lowest, Told, refused, gives, toldIf, leftIf}

@@ -22,7 +22,7 @@ use Rattle.index_query.specs.Query as query
 use Rattle.index_query.proofs.Visits.{point-slots}
 use Rattle.index_state.specs.declared.Index.{Index}
 use Rattle.index_state.specs.Index.{soundIndex, full, slotOf, generationOf, keyOf, live, workOf, rectSlots, pointSlots}
-use Rattle.index_state.specs.Calls.{Call, insert, update, remove, clear, commit, query-rect, query-point, short, roomForEntries, conditionsOfQuery, refusal, accepted, after, nothing, key, damage, entries, given, told, commitRefusal, CommitRooms, queryRoom}
+use Rattle.index_state.specs.Calls.{Call, insert, update, remove, clear, commit, query-rect, query-point, short, conditionsOfQuery, refusal, accepted, after, nothing, key, damage, entries, given, told, commitRefusal, CommitRooms, queryRoom}
 
 -- ---- a refusal's number, by the call's tests
 
