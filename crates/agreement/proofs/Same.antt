@@ -9,16 +9,24 @@ use Rattle.counting.specs.Times.{times}
 use Rattle.link_forest.specs.Forest.{has}
 use Rattle.index_commit.specs.Agree.{Agree}
 use Rattle.tree_state.specs.declared.Tree.{Tree}
-use Rattle.tree_state.specs.Tree.{generationAt, localAt, storedPlace, entryMark, isRemoved}
+use Rattle.tree_state.specs.Tree.{generationAt, localAt, markedAt, transformChangedAt, clipChangedAt, committedAt, keyAt, storedPlace, entryMark, isRemoved}
 use Rattle.tree_state.specs.Sound.{SoundTree}
 use Rattle.tree_laws.specs.Whole.{Whole}
 use Rattle.tree_laws.proofs.Ground.{Linked}
 use Rattle.plan.specs.Lists.{any}
-use Rattle.plan.specs.Plan.{Plan}
+use Rattle.plan.specs.Plan.{Plan, Mark, Entry}
 use Rattle.plan.specs.Visits.{countsAsChanged}
 use Rattle.plan.specs.Afresh.{lineage, worldPlace}
-use Rattle.agreement.specs.Read.{markOf, entryOf}
+use Rattle.agreement.specs.Read.{entryIf}
 use Rattle.agreement.specs.Afresh.{Boxed}
+
+-- ---- the plan's records, read off the tree
+
+abbrev pub markOf : Tree → ℕ → Mark
+markOf t x = record { marked = markedAt t x; transform = transformChangedAt t x; clip = clipChangedAt t x }
+
+abbrev pub entryOf : Tree → ℕ → Entry
+entryOf t x = entryIf (committedAt t x) (keyAt t x .0)
 
 pub record Same (t : Tree) (p : Plan) : Type 0 where
   pub links : Linked t (p .links)

@@ -1,16 +1,8 @@
--- The plan's records, read off the tree.
+-- The plan's entry of a node, read off the tree: whether it is committed, and the slot of its key.
 use Prim.Native.Nat.{ℕ}
 use mathlib.Core.Bool.{Bool, true, false}
-use Rattle.tree_state.specs.declared.Tree.{Tree}
-use Rattle.tree_state.specs.Tree.{markedAt, transformChangedAt, clipChangedAt, committedAt, keyAt}
-use Rattle.plan.specs.Plan.{Mark, Entry, without, number}
-
-abbrev pub markOf : Tree → ℕ → Mark
-markOf t x = record { marked = markedAt t x; transform = transformChangedAt t x; clip = clipChangedAt t x }
+use Rattle.plan.specs.Plan.{Entry, without, number}
 
 abbrev pub entryIf : Bool → ℕ → Entry
 entryIf true k = number k
 entryIf false k = without
-
-abbrev pub entryOf : Tree → ℕ → Entry
-entryOf t x = entryIf (committedAt t x) (keyAt t x .0)

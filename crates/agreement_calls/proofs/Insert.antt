@@ -33,8 +33,7 @@ use Rattle.plan.specs.Visits.{countsAsChanged}
 use Rattle.plan.specs.Afresh.{lineage}
 use Rattle.plan.specs.Calls as call
 use Rattle.plan.specs.Calls.{accepted}
-use Rattle.agreement.proofs.Same.{Same, Settled, Known}
-use Rattle.agreement.specs.Read.{markOf, entryOf}
+use Rattle.agreement.proofs.Same.{Same, Settled, Known, markOf, entryOf}
 use Rattle.agreement_calls.proofs.Verdicts.{Freed, nothing, last, some-freed, slots-freed, slot-same, generation-same}
 use Rattle.agreement_calls.proofs.Frame.{put-same, put-other, any-at, Kept, Unmoved, Still, still-right}
 use Rattle.agreement_calls.proofs.Setters.{live-node}

@@ -26,8 +26,7 @@ use Rattle.plan.specs.Visits.{countsAsChanged}
 use Rattle.plan.specs.Afresh.{lineage}
 use Rattle.plan.specs.Calls as call
 use Rattle.plan.specs.Calls.{accepted}
-use Rattle.agreement.proofs.Same.{Same, Settled, Known}
-use Rattle.agreement.specs.Read.{markOf}
+use Rattle.agreement.proofs.Same.{Same, Settled, Known, markOf}
 use Rattle.agreement_calls.proofs.Tests.{at-or-below-same}
 use Rattle.agreement_calls.proofs.Frame.{put-same, put-other, any-at, Still, still-right}
 use Rattle.agreement_calls.proofs.Insert.{parent-in, changed-unsettled, settled-itself}

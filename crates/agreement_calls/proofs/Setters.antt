@@ -44,8 +44,7 @@ use Rattle.plan.specs.Plan.{Plan, Mark, withLocal, setUnless}
 use Rattle.plan.specs.Visits.{countsAsChanged}
 use Rattle.plan.specs.Calls as call
 use Rattle.plan.specs.Calls.{accepted}
-use Rattle.agreement.proofs.Same.{Same, Known}
-use Rattle.agreement.specs.Read.{markOf}
+use Rattle.agreement.proofs.Same.{Same, Known, markOf}
 use Rattle.agreement_calls.proofs.Tests.{live-same}
 use Rattle.agreement_calls.proofs.Frame.{put-same, put-other, Kept, Unmoved, Still, still-right}
 

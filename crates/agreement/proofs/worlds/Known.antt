@@ -25,8 +25,7 @@ use Rattle.tree_steps.specs.SlotOrder.{putIn, slotsBelow}
 use Rattle.tree_steps.specs.Commit.{begun, startsBelow, walkAll, visitsOf, finished, workFor, commitTree}
 use Rattle.plan.specs.Plan.{Plan, noMark, Entries}
 use Rattle.plan.specs.Visits.{visits, enter, freeRemoved, committed}
-use Rattle.agreement.proofs.Same.{Same, Known}
-use Rattle.agreement.specs.Read.{markOf, entryOf}
+use Rattle.agreement.proofs.Same.{Same, Known, markOf, entryOf}
 use Rattle.agreement.proofs.worlds.Visits.{slotAt, Visited, visited}
 use Rattle.agreement.proofs.worlds.Keyed.{KeyedTree}
 use Rattle.agreement.proofs.worlds.Entries.{Entered}

@@ -30,9 +30,8 @@ use Rattle.plan.specs.Lists.{any, joined}
 use Rattle.plan.specs.Plan.{Plan, numbers, removed}
 use Rattle.plan.specs.Visits.{countsAsChanged}
 use Rattle.plan.specs.Afresh.{placedOn, worldPlace, worldBounds, worldHitBounds}
-use Rattle.agreement.proofs.Same.{Same, Settled, Right, Queued, Backed, Known}
+use Rattle.agreement.proofs.Same.{Same, Settled, Right, Queued, Backed, Known, entryOf}
 use Rattle.agreement.specs.Afresh.{Alike}
-use Rattle.agreement.specs.Read.{entryOf}
 use Rattle.tree_invariant.proofs.remove.Counts.{joined-same, reverse-append}
 use Rattle.tree_invariant.proofs.remove.Entries.{mark-stays, mark-removed, queued-keys}
 use Rattle.tree_invariant.specs.remove.Removals.{Plain}
