@@ -102,7 +102,7 @@ write-path-requires c κs =
     let z = sized (s .args .t1) (s .good .0) in
     let p = sound-places (s .args .t1) z (took e .whole .test) in
     let at = c .before .before .before .before .before .before .before .before .position .ensures .1 in
-    (omega (arith, at, shown y .1), p .0, shown y .0, p .1, z .depth, took e .whole .depths, p .2, took e .long)
+    (omega (arith, at, shown y .1), p .0, omega (arith, shown y .0), p .1, z .depth, took e .whole .depths, p .2, took e .long)
 
 same-length : tie.Need-same-length
 same-length c = search needs
