@@ -62,7 +62,8 @@ use Rattle.tree_invariant.proofs.calls.Accepted.{checked-both, insert-accepted}
 use Rattle.tree_invariant.proofs.calls.Links.{new-low}
 use Rattle.tree_invariant.proofs.remove.Counts.{joined-same}
 use Rattle.tree_invariant.proofs.remove.Keep as kept
-use Rattle.tree_invariant.proofs.remove.Fold.{pendingAll, pending-count}
+use Rattle.tree_invariant.specs.remove.Removals.{pendingAll}
+use Rattle.tree_invariant.proofs.remove.Fold.{pending-count}
 use Rattle.plan.specs.Lists.{put, keep, any, joined, sorted}
 use Rattle.plan.specs.Plan as plan
 use Rattle.plan.specs.Plan.{Plan, nodes}

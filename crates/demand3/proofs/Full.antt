@@ -25,7 +25,8 @@ use Rattle.tree_state.specs.Sound.{SoundTree, countBelow}
 use Rattle.tree_sound.proofs.Exact.{decides, live-is}
 use Rattle.tree_steps.specs.Setters.{held}
 use Rattle.tree_steps.specs.Structure.{parentLive, insertVerdict}
-use Rattle.tree_laws.proofs.Whole.{Whole, sized}
+use Rattle.tree_laws.specs.Whole.{Whole}
+use Rattle.tree_laws.proofs.Whole.{sized}
 use Rattle.tree_laws.proofs.Ground.{linked}
 use Rattle.tree_invariant.proofs.calls.Accepted.{checked-both}
 use Rattle.agreement.proofs.worlds.Sound.{count-none}
