@@ -11,7 +11,7 @@ use Rattle.tree_state.specs.declared.Tree.{Tree}
 use Rattle.tree_state.specs.Tree.{freshTree, needsCommit, anyOf, some}
 use Rattle.index_state.specs.Index.{freshIndex}
 use Rattle.tree_steps.specs.Commit.{commitTree}
-use Rattle.tree_run.specs.Run as tree
+use Rattle.tree_run.proofs.Verdicts.{accepted}
 use Rattle.plan.specs.Demand.{run}
 use Rattle.sheet_calls.specs.Calls.{insertsFrom}
 use Rattle.sheet_calls.specs.Good.{Good, Passes}
@@ -32,7 +32,7 @@ good-bare = record { few-places = omega arith; few-clips = omega arith; few-taps
 
 -- a commit of the fresh tree leaves it
 bare-tree : treeOf bare ≡ freshTree
-unfolding treeUpTo run insertsFrom tree.accepted commitTree freshTree needsCommit anyOf some freshIndex
+unfolding treeUpTo run insertsFrom accepted commitTree freshTree needsCommit anyOf some freshIndex
 bare-tree = commit-last bare good-bare
 
 pub good-lines : (s : List ℕ) → Good (linesOf (readSheet s))
