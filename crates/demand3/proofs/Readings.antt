@@ -7,6 +7,7 @@ use Prim.Native.Nat.{ℕ}
 use native.Mathlib.Omega.{arith}
 use lib.Dec.{eqb}
 use Rattle.numbers.proofs.Bools.{and-left}
+use Rattle.counting.proofs.Conditions.{first-holds}
 use Rattle.index_types.specs.declared.NodeId.{NodeId}
 use Rattle.tree_types.specs.declared.LocalNode.{LocalNode}
 use Rattle.tree_worlds.specs.declared.Placed.{Placed}
@@ -38,11 +39,6 @@ use Rattle.demand3.proofs.Soundness.{meets-after}
 use Rattle.demand3.specs.Claims.{after}
 
 -- ---- what a plan that does not refuse has tested
-
-first-holds : (b : Bool) (n : ℕ) (rest : Conditions) → (n ≡ 0 → ⊥) → lowest (b else n then rest) ≡ 0 → (b ≡ true) × (lowest rest ≡ 0)
-unfolding lowest
-first-holds true n rest z e = (refl, e)
-first-holds false n rest z e = absurd (z e)
 
 -- not refused by 2: the node is there
 pub node-there : (p : Plan) (i : NodeId) (rest : Conditions) → lowest (plan.live p i else 2 then rest) ≡ 0 → has (i .0) (p .links) ≡ true

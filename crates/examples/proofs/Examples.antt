@@ -38,7 +38,7 @@ use Rattle.agreement_calls.proofs.Fresh.{known-fresh}
 use Rattle.demand3.proofs.Theorem.{demand-3}
 use Rattle.demand3.proofs.Readings.{accepted}
 use Rattle.demand3.proofs.Links.{children-told}
-use Rattle.examples.specs.Examples.{told, answers, tapAt, childrenAt, given, exampleSheet, flatRoot, flatChild, callsIn, Flat, Examples}
+use Rattle.examples.specs.Examples.{told, answers, tapAt, childrenAt, given, exampleSheet, flatRoot, flatChild, callsIn, FlatNode, own, Examples}
 use Rattle.examples.proofs.Flat.{no-candidate, not-answered, nothing-hit}
 
 -- ---- the rows that go by demand 3: the plan computes them
@@ -99,7 +99,7 @@ unfolding answer
 tap-accepted p asked room pt n e = rw (e, redacted-same asked p (call.hit-test-point pt))
 
 never-8 : (calls : List Call) (asked : NodeFlags) (room : List ℕ) (pt : Point) (i : NodeId) (path : List NodeId)
-    → tree.answer (after calls) asked room (call.hit-test-point pt) ≡ tapped (hit i path) → Flat (run step empty calls .local (i .0) .«local_transform») → ⊥
+    → tree.answer (after calls) asked room (call.hit-test-point pt) ≡ tapped (hit i path) → FlatNode (run step empty calls) (i .0) → ⊥
 unfolding after
 never-8 calls asked room pt i path e F =
     let p = run step empty calls in
@@ -112,7 +112,7 @@ unfolding cases.computed
 alone-8 pt =
     let p = run step empty (flatRoot ∷ settle ∷ []) in
     tap-by-plan (flatRoot ∷ settle ∷ []) pt (tapped nothing)
-    (tap-accepted p (flags 3) (words 512) pt 0 refl ∙ ap tapped (nothing-hit p 0 refl (record { a = refl; b = refl; c = refl; d = refl }) (flags 3) pt))
+    (tap-accepted p (flags 3) (words 512) pt 0 refl ∙ ap tapped (nothing-hit p 0 refl (own (record { a = refl; b = refl; c = refl; d = refl })) (flags 3) pt))
 
 before-8 : tapAt (root ∷ flatChild ∷ settle ∷ []) (point 5 5) ≡ tapped (hit a (a ∷ []))
 unfolding cases.computed

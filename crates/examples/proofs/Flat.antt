@@ -1,4 +1,5 @@
--- P8: a node whose own linear part is all zero, of either sign, is no candidate of any tap, and so no tap hits it: no point is mapped back to a point.
+-- P8: a node whose own linear part is all zero, of either sign, or whose world transform's is, is no candidate of any tap, and so no tap hits it: no
+-- point is mapped back to a point.
 -- Under any parent its world linear part is zero or NaN, the reciprocal of its determinant an infinity or NaN, and each coefficient of the inverse NaN.
 use mathlib.Core.Path.{_≡_, refl, sym, ap, _∙_}
 use mathlib.Core.Bool.{Bool, true, false, not, _&&_, cond, false≢true}
@@ -26,9 +27,9 @@ use Rattle.index_types.specs.declared.NodeId.{NodeId}
 use Rattle.tree_types.specs.declared.NodeFlags.{NodeFlags}
 use Rattle.plan.specs.Lists.{keep}
 use Rattle.plan.specs.Plan.{Plan, nodes}
-use Rattle.plan.specs.Afresh.{placedOn, candidate, larger, Hit, nothing, node, better, largest, Tap, hit, tapOf, tap}
+use Rattle.plan.specs.Afresh.{placedOn, worldPlace, candidate, larger, Hit, nothing, node, better, largest, Tap, hit, tapOf, tap}
 use Rattle.plan.specs.Demand.{Answer, refused, tapped, listed, answerIf}
-use Rattle.examples.specs.Examples.{Flat}
+use Rattle.examples.specs.Examples.{Flat, FlatNode, own, world}
 
 -- ---- zero or NaN
 
@@ -123,18 +124,17 @@ record Empty (t : Affine) : Type 0 where
   c : Void (t .c)
   d : Void (t .d)
 
-under : (P Q : Affine) → Flat Q → Empty (product P Q)
+flat-empty : (t : Affine) → Flat t → Empty t
+flat-empty t F = record { a = void-of (t .a) (F .a); b = void-of (t .b) (F .b); c = void-of (t .c) (F .c); d = void-of (t .d) (F .d) }
+
+under : (P Q : Affine) → Empty Q → Empty (product P Q)
 unfolding product
-under P Q F =
-    let a = void-of (Q .a) (F .a) in
-    let b = void-of (Q .b) (F .b) in
-    let c = void-of (Q .c) (F .c) in
-    let d = void-of (Q .d) (F .d) in
+under P Q E =
     record {
-      a = plus _ _ (times (P .a) (Q .a) a) (times (P .c) (Q .b) b);
-      b = plus _ _ (times (P .b) (Q .a) a) (times (P .d) (Q .b) b);
-      c = plus _ _ (times (P .a) (Q .c) c) (times (P .c) (Q .d) d);
-      d = plus _ _ (times (P .b) (Q .c) c) (times (P .d) (Q .d) d);
+      a = plus _ _ (times (P .a) (Q .a) (E .a)) (times (P .c) (Q .b) (E .b));
+      b = plus _ _ (times (P .b) (Q .a) (E .a)) (times (P .d) (Q .b) (E .b));
+      c = plus _ _ (times (P .a) (Q .c) (E .c)) (times (P .c) (Q .d) (E .d));
+      d = plus _ _ (times (P .b) (Q .c) (E .c)) (times (P .d) (Q .d) (E .d));
     }
 
 -- no point is mapped back
@@ -160,9 +160,14 @@ unfolding reached
 not-reached t E r s c pt = rw (mapped-nowhere t E pt, out)
 
 -- of every plan and at every point
-pub no-candidate : (p : Plan) (x : ℕ) → Flat (p .local x .«local_transform») → (asked : NodeFlags) (pt : Point) → candidate p asked pt x ≡ false
-unfolding candidate placedOn placed
-no-candidate p x F asked pt = rw (not-reached _ (under _ (p .local x .«local_transform») F), and-false)
+world-empty : (p : Plan) (x : ℕ) → FlatNode p x → Empty (worldPlace p x .transform)
+unfolding placedOn placed
+world-empty p x (own F) = under _ (p .local x .«local_transform») (flat-empty (p .local x .«local_transform») F)
+world-empty p x (world F) = flat-empty (worldPlace p x .transform) F
+
+pub no-candidate : (p : Plan) (x : ℕ) → FlatNode p x → (asked : NodeFlags) (pt : Point) → candidate p asked pt x ≡ false
+unfolding candidate
+no-candidate p x F asked pt = rw (not-reached (worldPlace p x .transform) (world-empty p x F), and-false)
 
 -- ---- what a tap answers
 
@@ -198,7 +203,7 @@ found nothing = false
 found (hit i path) = true
 
 -- no tap of any plan hits such a node
-not-hit : (p : Plan) (asked : NodeFlags) (pt : Point) (i : NodeId) (path : List NodeId) → tap p asked pt ≡ hit i path → Flat (p .local (i .0) .«local_transform») → ⊥
+not-hit : (p : Plan) (asked : NodeFlags) (pt : Point) (i : NodeId) (path : List NodeId) → tap p asked pt ≡ hit i path → FlatNode p (i .0) → ⊥
 unfolding tap slot found
 not-hit p asked pt i path e F =
     go (largest p (keep (candidate p asked pt) (nodes p))) (largest-passes p (candidate p asked pt) (nodes p)) e
@@ -216,12 +221,12 @@ tap-of (tapped t) = t
 tap-of (listed l) = nothing
 
 pub not-answered : (p : Plan) (asked : NodeFlags) (pt : Point) (i : NodeId) (path : List NodeId) (n : ℕ)
-    → answerIf n (tapped (tap p asked pt)) ≡ tapped (hit i path) → Flat (p .local (i .0) .«local_transform») → ⊥
+    → answerIf n (tapped (tap p asked pt)) ≡ tapped (hit i path) → FlatNode p (i .0) → ⊥
 unfolding tap-of found
 not-answered p asked pt i path zero e F = not-hit p asked pt i path (ap tap-of e) F
 not-answered p asked pt i path (suc n) e F = false≢true (ap (λ (r : Answer). found (tap-of r)) e)
 
 -- where it is the only one, a tap finds nothing
-pub nothing-hit : (p : Plan) (x : ℕ) → nodes p ≡ x ∷ [] → Flat (p .local x .«local_transform») → (asked : NodeFlags) (pt : Point) → tap p asked pt ≡ nothing
+pub nothing-hit : (p : Plan) (x : ℕ) → nodes p ≡ x ∷ [] → FlatNode p x → (asked : NodeFlags) (pt : Point) → tap p asked pt ≡ nothing
 unfolding tap keep largest
 nothing-hit p x e F asked pt = rw (e, no-candidate p x F asked pt)

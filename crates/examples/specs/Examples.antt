@@ -1,4 +1,5 @@
--- Document 01's examples P1 to P12, a row each, as one claim. Rows about taps, ids and refusals speak of the tree's own run from fresh.
+-- Document 01's examples P1 to P12, a row each, as one claim. Rows about taps, ids and refusals speak of the tree's own run from fresh;
+-- P6's world box and P8's first row speak of the plan, P11 and P12 of the index's definitions.
 use mathlib.Core.Path.{_≡_}
 use mathlib.Core.Bool.{true, false}
 use mathlib.Core.List.{List, [], _∷_}
@@ -25,7 +26,7 @@ use Rattle.tree_run.specs.Told.{childrenTold}
 use Rattle.tree_run.specs.Run as tree
 use Rattle.tree_rows.proofs.Rows.{after}
 use Rattle.plan.specs.Plan.{Plan, empty}
-use Rattle.plan.specs.Afresh.{worldBounds, candidate, nothing, hit}
+use Rattle.plan.specs.Afresh.{worldPlace, worldBounds, candidate, nothing, hit}
 use Rattle.plan.specs.Calls as call
 use Rattle.plan.specs.Calls.{Call, Outcome, step, outcome}
 use Rattle.plan.specs.Demand.{Answer, tapped, listed, run, outcomes}
@@ -82,6 +83,11 @@ pub record Flat (t : Affine) : Type 0 where
   pub c : eq (t .c) zero ≡ true
   pub d : eq (t .d) zero ≡ true
 
+-- so it is of a node's own transform, or of its world transform
+pub data FlatNode (p : Plan) (x : ℕ) : Type 0 where
+  own : Flat (p .local x .«local_transform») → FlatNode p x
+  world : Flat (worldPlace p x .transform) → FlatNode p x
+
 pub record Examples : Type 0 where
   -- Fresh tree: commit gives no damage.
   pub p1 : commitCall freshTree 2048 .answer ≡ commits.Damage 0
@@ -108,9 +114,9 @@ pub record Examples : Type 0 where
       × (tapAt halfClip (record { x = round binary64 false 21 2; y = num 10 }) ≡ tapped nothing)
   -- All-zero linear part: no tap hits. Of every plan such a node is no candidate; after every list of calls no tap answers it; a tree of one such node
   -- answers every tap with nothing, also at the point that is its hit box, and one in front of another node leaves that to be hit.
-  pub p8 : ((p : Plan) (x : ℕ) → Flat (p .local x .«local_transform») → (asked : NodeFlags) (pt : Point) → candidate p asked pt x ≡ false)
+  pub p8 : ((p : Plan) (x : ℕ) → FlatNode p x → (asked : NodeFlags) (pt : Point) → candidate p asked pt x ≡ false)
       × ((calls : List Call) (asked : NodeFlags) (room : List ℕ) (pt : Point) (i : NodeId) (path : List NodeId)
-      → tree.answer (after calls) asked room (call.hit-test-point pt) ≡ tapped (hit i path) → Flat (run step empty calls .local (i .0) .«local_transform») → ⊥)
+      → tree.answer (after calls) asked room (call.hit-test-point pt) ≡ tapped (hit i path) → FlatNode (run step empty calls) (i .0) → ⊥)
       × ((pt : Point) → tapAt (flatRoot ∷ settle ∷ []) pt ≡ tapped nothing)
       × (tapAt (root ∷ flatChild ∷ settle ∷ []) (point 5 5) ≡ tapped (hit a (a ∷ [])))
   -- Equal level and depth: (0, 2) beats (1, 1).

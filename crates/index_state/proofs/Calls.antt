@@ -7,8 +7,8 @@ use lib.ListN.{length, set}
 use lib.Ieee.{Float}
 use borrow.Author.Tests.{ltb-false, not-false, not-true}
 use lib.Dec.{ltb}
-use Rattle.counting.specs.Conditions.{lowest, refused, gives}
-use Rattle.counting.proofs.Conditions.{told-refused, left-refused, told-accepted, left-accepted}
+use Rattle.counting.specs.Conditions.{lowest, risingFrom, rising, Least, refused, gives}
+use Rattle.counting.proofs.Conditions.{least, told-refused, left-refused, told-accepted, left-accepted}
 use Rattle.index_types.specs.declared.Aabb2D.{Aabb2D}
 use Rattle.index_types.specs.declared.NodeId.{NodeId}
 use Rattle.index_types.specs.flat_tables.Tables.{putBox, putId}
@@ -22,7 +22,22 @@ use Rattle.index_query.specs.Query as query
 use Rattle.index_query.proofs.Visits.{point-slots}
 use Rattle.index_state.specs.declared.Index.{Index}
 use Rattle.index_state.specs.Index.{soundIndex, full, slotOf, generationOf, keyOf, live, workOf, rectSlots, pointSlots}
-use Rattle.index_state.specs.Calls.{Call, insert, update, remove, clear, commit, query-rect, query-point, short, conditionsOfQuery, refusal, accepted, after, nothing, key, damage, entries, given, told, commitRefusal, CommitRooms, queryRoom}
+use Rattle.index_state.specs.Calls.{Call, insert, update, remove, clear, commit, query-rect, query-point, short, conditionsOfQuery, conditions, refusal, accepted, after, nothing, key, damage, entries, given, told, commitRefusal, CommitRooms, queryRoom}
+
+-- ---- the lowest number that applies is given
+
+rows-rise : (ix : Index) (c : Call) → rising (conditions ix c) ≡ true
+unfolding risingFrom
+rows-rise ix (insert b p) = refl
+rows-rise ix (update k b) = refl
+rows-rise ix (remove k) = refl
+rows-rise ix clear = refl
+rows-rise ix (commit a r o n) = refl
+rows-rise ix (query-rect rect len) = refl
+rows-rise ix (query-point x y len) = refl
+
+pub lowest-given : (ix : Index) (c : Call) → Least (conditions ix c)
+lowest-given ix c = least (conditions ix c) (rows-rise ix c)
 
 -- ---- a refusal's number, by the call's tests
 

@@ -17,8 +17,12 @@ use Rattle.index_state.specs.declared.Index.{Index}
 use Rattle.index_state.specs.Index.{soundIndex, full, freshIndex, live}
 use Rattle.index_state.specs.Calls.{Call, insert, update, remove, clear, commit, query-rect, query-point, short, roomForEntries, refusal, given, told}
 use Rattle.index_state.specs.Run.{run}
-use Rattle.index_state.specs.Claims.{Only, Shaped}
+use Rattle.index_state.specs.Claims.{OneExactlyUnless, Shaped}
 use Rattle.index_state.proofs.Soundness.{fresh-kept, run-kept, sound-from-fresh}
+
+-- a number is 1 exactly where a fact fails
+abbrev Only : Type 0 → ℕ → Type 0
+Only P n = (n ≡ 1 → P → ⊥) × ((P → ⊥) → n ≡ 1)
 
 -- of a call that asks for soundness first and then for its own condition
 only : {P : Type 0} (s t : Bool) (n : ℕ) → Tells s P → eqb n 1 ≡ false → Only P (lowest (s else 1 then t else n then accept))
@@ -44,7 +48,7 @@ module _ (ix : Index) (S : Shaped ix) where
   number-1 (query-rect rect len) = only (soundIndex ix) (roomForEntries len) 8 tells refl
   number-1 (query-point x y len) = only (soundIndex ix) (roomForEntries len) 8 tells refl
 
-  pub refuses-1 : (c : Call) → (told ix c ≡ refused 1 → Sound → ⊥) × ((Sound → ⊥) → told ix c ≡ refused 1)
+  pub refuses-1 : (c : Call) → OneExactlyUnless Sound (told ix c)
   unfolding told
   refuses-1 c = ((λ e p. number-1 c .0 (told-number (refusal ix c) 1 (given ix c) e) p), (λ q. sym (told-refused 0 (refusal ix c) (number-1 c .1 q) (given ix c))))
 

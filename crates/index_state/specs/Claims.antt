@@ -1,13 +1,17 @@
--- What the theorems over every list of calls, and over every index, claim (proofs/Refused.antt, proofs/Backend.antt).
+-- What the theorems over every list of calls, and over every index, claim (proofs/Refused.antt, proofs/Full.antt, proofs/Backend.antt).
 use Prim.Native.Nat.{ℕ, _≤_}
 use mathlib.Core.Path.{_≡_}
 use mathlib.Core.Bool.{Bool}
 use lib.ListN.{length, getD}
 use Rattle.index_types.specs.declared.Aabb2D.{Aabb2D}
+use Rattle.index_types.specs.declared.NodeId.{NodeId}
 use Rattle.index_types.specs.flat_tables.Tables.{boxAt}
 use Rattle.counting.specs.Times.{tally}
+use Rattle.counting.specs.Conditions.{Told, refused, gives}
 use Rattle.index_commit.specs.Agree.{Agree}
 use Rattle.index_state.specs.declared.Index.{Index}
+use Rattle.index_state.specs.Index.{AllHeld, slotOf, generationOf, keyOf}
+use Rattle.index_state.specs.Calls.{insert, Given, key, told}
 
 -- the lengths of the tables, as every value of the type has them
 pub record Shaped (ix : Index) : Type 0 where
@@ -15,9 +19,15 @@ pub record Shaped (ix : Index) : Type 0 where
   pub free-whole : length (ix .free) ≡ 512
   pub dirty-whole : length (ix .dirty) ≡ 512
 
--- a number is 1 exactly where a fact fails
-abbrev pub Only : Type 0 → ℕ → Type 0
-Only P n = (n ≡ 1 → P → ⊥) × ((P → ⊥) → n ≡ 1)
+-- refused by 1 exactly where a fact fails
+abbrev pub OneExactlyUnless : Type 0 → Told Given → Type 0
+OneExactlyUnless P r = (r ≡ refused 1 → P → ⊥) × ((P → ⊥) → r ≡ refused 1)
+
+-- 11: an insert is refused by it if and only if all 512 slots hold an entry, and else given the entry's key
+pub record FullAt512 (ix : Index) : Type 0 where
+  pub only : (b : Aabb2D) (p : NodeId) → told ix (insert b p) ≡ refused 11 → AllHeld ix
+  pub always : (b : Aabb2D) (p : NodeId) → AllHeld ix → told ix (insert b p) ≡ refused 11
+  pub else-given : (b : Aabb2D) (p : NodeId) → (AllHeld ix → ⊥) → told ix (insert b p) ≡ gives (key (keyOf (slotOf ix) (generationOf ix)))
 
 -- the backend and the entries agree
 abbrev pub Own : Index → Type 0

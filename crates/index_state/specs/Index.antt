@@ -22,7 +22,7 @@ use Rattle.index_state.specs.declared.Index.{Index}
 abbrev pub soundIndex : Index → Bool
 soundIndex ix = soundOf (ix .mark) (ix .free) (ix .frees) (ix .dirty) (ix .queued) (ix .used)
 
--- 11: 512 slots are in use, and none of them is free
+-- 11: 512 slots have been used, and none of them is free
 abbrev pub full : Index → Bool
 full ix = eqb (ix .frees) 0 && leb 512 (ix .used)
 

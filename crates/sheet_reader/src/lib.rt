@@ -27,6 +27,7 @@ pub struct Reader<'a> {
 }
 
 // A line's numbers, in the first places of `row`, if `good`; and the reader behind the line, good or not, or where there is no LF ahead as it was.
+// What `row` holds behind `width`, and all of it where not `good`, is the program's choice.
 pub struct ReadLine<'a> {
     pub good: bool,
     pub row: [i64; LINE_WIDTH],

@@ -15,7 +15,8 @@ use sheet_format::TAP_NUMBERS;
 use tree_commit::work;
 use tree_state::Tree;
 
-// The committed tree of a sheet and the sheet's taps; or the refusal, with a fresh tree and no taps.
+// The committed tree of a sheet and the sheet's taps; or the refusal, with a fresh tree and no taps: look at `answer` first.
+// What `taps` holds behind the first `tapped` is the program's choice.
 pub struct SheetTree {
     pub answer: Answer,
     pub tree: Tree,

@@ -1,5 +1,5 @@
 -- The call from its verdict: what an accepted one has, and what it answers.
-use mathlib.Core.Path.{_≡_, refl, subst}
+use mathlib.Core.Path.{_≡_, subst}
 use mathlib.Core.Bool.{true}
 use Prim.Native.Nat.{_≤_, _<_}
 use borrow.Author.Tests.{ltb-true}
@@ -22,7 +22,7 @@ use Rattle.tree_state.specs.declared.Refusal.{Refusal}
 use Rattle.tree_state.specs.declared.Refusal.the-variants as no
 use Rattle.tree_state.specs.declared.Verdict.{Verdict}
 use Rattle.tree_state.specs.declared.Verdict.the-variants as is
-use Rattle.tree_state.specs.Tree.{checked, numberIn, positionOf}
+use Rattle.tree_state.specs.Tree.{checked, positionOf}
 use Rattle.tree_steps.specs.Setters.{held, markBoth}
 use Rattle.tree_steps.specs.Structure.{slotOf, newId, parentLive, insertVerdict, takeSlot, linkNew, storeLocal, clearBoxes, withoutKey, insertTree}
 use Rattle.tree_verdicts.proofs.nodes.Lengths.{Told, sized}
@@ -32,7 +32,7 @@ use Rattle.tree_invariant.proofs.calls.Links.{new-low}
 use Rattle.tree_insert.specs.slots.Slots.{idOf}
 use Rattle.tree_insert.specs.declared.AfterInsert.{AfterInsert}
 use Rattle.tree_insert.specs.declared.Inserted.the-variants as inserts
-use Rattle.tree_insert.specs.Insert.{insertedNumber, inserted, insertCall, Placed}
+use Rattle.tree_insert.specs.Insert.{insertCall, Placed}
 
 -- ---- its place
 
@@ -96,12 +96,3 @@ pub done : (t : Tree) (parent : OptionNodeId) (v : LocalNode) (i : NodeId) (slot
     a ≡ insertDone t parent v
 unfolding insertTree
 done t parent v i slots links locals worlds marks keys h e0 e1 e2 e3 e4 e5 = rw (e0, e1, e2, e3, e4, e5, h)
-
--- the answer's number is the verdict's
-pub same-number : (t : Tree) (parent : OptionNodeId) (v : LocalNode) → insertedNumber (insertCall t parent v .answer) ≡ numberIn (insertVerdict t parent v)
-unfolding insertCall insertedNumber numberIn
-same-number t parent v = at (insertVerdict t parent v)
-  where
-    at : (w : Verdict) → insertedNumber (inserted w (idOf (t .slots))) ≡ numberIn w
-    at is.Accepted = refl
-    at (is.Refused r) = refl

@@ -1,5 +1,5 @@
 -- What insert answers, and the tree after it.
-use Prim.Native.Nat.{ℕ, _<_}
+use Prim.Native.Nat.{_<_}
 use Rattle.index_types.specs.declared.NodeId.{NodeId}
 use Rattle.tree_types.specs.declared.LocalNode.{LocalNode}
 use Rattle.tree_types.specs.declared.OptionNodeId.{OptionNodeId}
@@ -7,17 +7,12 @@ use Rattle.tree_types.specs.declared.OptionNodeId.the-variants as node
 use Rattle.tree_state.specs.declared.Tree.{Tree}
 use Rattle.tree_state.specs.declared.Verdict.{Verdict}
 use Rattle.tree_state.specs.declared.Verdict.the-variants as is
-use Rattle.tree_state.specs.Tree.{positionOf, numberOf}
+use Rattle.tree_state.specs.Tree.{positionOf}
 use Rattle.tree_steps.specs.Setters.{treeIf}
 use Rattle.tree_steps.specs.Structure.{newId, insertVerdict, insertTree}
 use Rattle.tree_insert.specs.declared.Inserted.{Inserted}
 use Rattle.tree_insert.specs.declared.Inserted.the-variants as inserts
 use Rattle.tree_insert.specs.declared.AfterInsert.{AfterInsert}
-
--- document 01's number of an answer: 0 where the node is inserted
-unfoldable pub insertedNumber : Inserted → ℕ
-insertedNumber (inserts.Node i) = 0
-insertedNumber (inserts.Refused r) = numberOf r
 
 -- the answer to a call with this verdict, where i is the new node
 abbrev pub inserted : Verdict → NodeId → Inserted

@@ -25,7 +25,7 @@ use tree_types::LocalNode;
 use tree_types::OptionNodeId;
 use tree_verdicts::marks;
 
-// The new node's id, or why there is none; `spec.insertedNumber` has document 01's numbers.
+// The new node's id, or why there is none; tree_run's `insertTold` has document 01's numbers.
 pub enum Inserted {
     Node(NodeId),
     Refused(Refusal),
