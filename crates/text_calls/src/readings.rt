@@ -122,7 +122,7 @@ fn children_of(out: &mut Buffer, used: &mut usize, t: Tree, id: NodeId, ids: u32
 }
 
 // A reading of a node. What is none is malformed.
-pub(crate) fn of_node_lem(
+pub(crate) fn of_node(
     out: &mut Buffer,
     used: &mut usize,
     line: &[u8],

@@ -12,7 +12,7 @@ use tree_types::OptionNodeId;
 use tree_verdicts::{marks, nodes};
 
 // Whether the parent is the node at the position `at` or below it: two comparisons of positions.
-fn is_below_lem(l: Links, at: usize, parent: OptionNodeId) -> bool
+fn is_below(l: Links, at: usize, parent: OptionNodeId) -> bool
     requires { (at < l.count) × (l.count ≤ 256) }
     ensures { result ≡ spec.is_below l at parent }
 {

@@ -45,7 +45,7 @@ pub fn is_live<'a>(
 }
 
 // 1, 2: the tree is sound and the node live. The tables are lent from here: one more call by value would be one more copy of the tree.
-pub fn of_node_lem(t: Tree, i: NodeId) -> Verdict
+pub fn of_node(t: Tree, i: NodeId) -> Verdict
     ensures { result ≡ spec.of_node t i }
 {
     let sound = tree_sound::sound_tables(
@@ -84,7 +84,7 @@ pub fn of_node_lem(t: Tree, i: NodeId) -> Verdict
     let Verdict::Accepted = v else {
         return v;
     };
-    let live = is_live_lem(&t.links.order, t.links.count, &t.slots.generation, i);
+    let live = is_live(&t.links.order, t.links.count, &t.slots.generation, i);
     tree_state::check(v, live, Refusal::DeadNode)
 }
 
@@ -105,6 +105,6 @@ pub fn of_parent<'a>(
     let OptionNodeId::Some(h) = parent else {
         return v;
     };
-    let live = is_live_lem(order, count, generation, h);
+    let live = is_live(order, count, generation, h);
     tree_state::check(v, live, Refusal::DeadParent)
 }

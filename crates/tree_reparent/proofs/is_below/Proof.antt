@@ -1,6 +1,6 @@
 use borrow.Author.Rules.{rules}
-use Rattle.tree_reparent.proofs.is_below_lem.Statement.{statement}
-use Rattle.tree_reparent.proofs.is_below_lem.Tie as tie
+use Rattle.tree_reparent.proofs.is_below.Statement.{statement}
+use Rattle.tree_reparent.proofs.is_below.Tie as tie
 
 enum-known-parent : tie.Need-enum-known-parent
 enum-known-parent c = search rules

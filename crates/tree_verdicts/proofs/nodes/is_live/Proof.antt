@@ -6,8 +6,8 @@ use lib.ListN.{take}
 use borrow.Author.Rules.{rules}
 use borrow.Author.Tests.{lt-ltb, le-ltb}
 use Rattle.link_forest.specs.Table.{index_of}
-use Rattle.tree_verdicts.proofs.nodes.is_live_lem.Statement.{statement}
-use Rattle.tree_verdicts.proofs.nodes.is_live_lem.Tie as tie
+use Rattle.tree_verdicts.proofs.nodes.is_live.Statement.{statement}
+use Rattle.tree_verdicts.proofs.nodes.is_live.Tie as tie
 
 position-requires : tie.Need-position-requires
 position-requires c κs = search rules

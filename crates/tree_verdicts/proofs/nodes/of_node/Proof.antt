@@ -7,8 +7,8 @@ use Rattle.tree_state.specs.declared.Refusal.TheVariants as no
 use Rattle.tree_steps.specs.Setters.{held}
 use Rattle.tree_verdicts.proofs.nodes.Lengths.{sized}
 use Rattle.tree_verdicts.proofs.nodes.Nodes.{Held, held_accepted, live_needs, checked_stopped}
-use Rattle.tree_verdicts.proofs.nodes.of_node_lem.Statement.{statement}
-use Rattle.tree_verdicts.proofs.nodes.of_node_lem.Tie as tie
+use Rattle.tree_verdicts.proofs.nodes.of_node.Statement.{statement}
+use Rattle.tree_verdicts.proofs.nodes.of_node.Tie as tie
 
 -- before the tables are lent
 abbrev start : tie.After-sound-tables → tie.Start
