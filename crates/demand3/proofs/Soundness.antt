@@ -8,7 +8,7 @@ use native.Mathlib.Omega.{arith}
 use native.Mathlib.Decide.{ℕ_discrete}
 use borrow.Author.Tests.{ne_eqb, eq-eqb, lt-leb}
 use lib.ListN.{length, get_or, take}
-use Rattle.index_entries.proofs.Found.{slot_unused}
+use Rattle.index_entries.proofs.Finding.{slot_unused}
 use Rattle.index_state.specs.Index as index
 use Rattle.tree_state.specs.declared.Tree.{Tree}
 use Rattle.tree_state.specs.declared.Verdict.TheVariants as is

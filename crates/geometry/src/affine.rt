@@ -5,7 +5,7 @@ ghost use Rattle.geometry.specs.Transform as spec;
 use crate::point::Point;
 use numbers::is_finite;
 
-#[derive(Drop)]
+#[derive(Clone, Copy)]
 pub struct Affine {
     pub a: f64,
     pub b: f64,

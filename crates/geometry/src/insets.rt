@@ -4,7 +4,7 @@ ghost use Rattle.geometry.specs.Parts.{insets_eq, zero_insets, finite_insets};
 
 use numbers::is_finite;
 
-#[derive(Drop)]
+#[derive(Clone, Copy)]
 pub struct Insets {
     pub x0: f64,
     pub y0: f64,

@@ -6,7 +6,7 @@ use crate::insets::Insets;
 use crate::point::Point;
 use numbers::{is_finite, max, min};
 
-#[derive(Drop)]
+#[derive(Clone, Copy)]
 pub struct Rect {
     pub x0: f64,
     pub y0: f64,

@@ -8,7 +8,7 @@ use crate::rounded_rect_radii::RoundedRectRadii;
 use geometry::point::Point;
 use geometry::rect::Rect;
 
-#[derive(Drop)]
+#[derive(Clone, Copy)]
 pub enum Clip {
     None,
     Square {

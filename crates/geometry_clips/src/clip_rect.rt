@@ -5,7 +5,7 @@ ghost use Rattle.geometry_clips.specs.clip_rect.Rects.{clip_rect_eq, finite_clip
 use geometry::rect::Rect;
 
 // A clip's rectangle, if there is a clip.
-#[derive(Drop)]
+#[derive(Clone, Copy)]
 pub enum ClipRect {
     None,
     Some(Rect),

@@ -9,7 +9,7 @@ ghost use Rattle.geometry_clips.specs.rounded_rect_radii.Radii as spec;
 use geometry::rect::Rect;
 use numbers::{abs, is_finite, min};
 
-#[derive(Drop)]
+#[derive(Clone, Copy)]
 pub struct RoundedRectRadii {
     pub top_left: f64,
     pub top_right: f64,

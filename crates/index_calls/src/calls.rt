@@ -9,7 +9,7 @@ use text_lines::{line, print};
 use understory_index::{commits, inserts, queries, updates};
 
 // A box, if `is_read`.
-#[derive(Drop)]
+#[derive(Clone, Copy)]
 struct Corners {
     is_read: bool,
     aabb: Aabb2D,
@@ -205,7 +205,7 @@ fn query_rect(
 
 // ---- the calls by name
 
-#[derive(Drop)]
+#[derive(Clone, Copy)]
 enum Verb {
     New,
     Clear,
@@ -284,7 +284,7 @@ fn call(out: &mut Buffer, used: &mut usize, line: &[u8], ix: Index, room: u32) -
 }
 
 // The index, and the room that a call is lent.
-#[derive(Drop)]
+#[derive(Clone, Copy)]
 pub(crate) struct State {
     index: Index,
     room: u32,

@@ -9,7 +9,7 @@ use index_entries::Previous;
 use index_types::{Aabb2D, flat_tables};
 
 // What one slot adds to the damage, and the length of the free list after it.
-#[derive(Drop)]
+#[derive(Clone, Copy)]
 pub struct Change {
     pub frees: usize,
     pub added: Previous,
@@ -142,7 +142,7 @@ fn push(room: &mut [f64], n: usize, p: Previous) -> usize
 }
 
 // The length of the free list, and how many boxes of each kind stand in the rooms.
-#[derive(Drop)]
+#[derive(Clone, Copy)]
 pub struct Done {
     pub frees: usize,
     pub added: usize,

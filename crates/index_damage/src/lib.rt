@@ -6,7 +6,7 @@ use index_types::Aabb2D;
 use index_types::flat_tables::box_in;
 
 // The union of the boxes so far, if there is one; or the refusal 8, where a room is shorter than its count says.
-#[derive(Drop)]
+#[derive(Clone, Copy)]
 pub enum Joined {
     None,
     Some(Aabb2D),

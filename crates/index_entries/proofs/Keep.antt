@@ -7,7 +7,7 @@ use Rattle.index_sound.specs.Sound.{empty, SlotOf, CountOf}
 use Rattle.index_entries.specs.declared.reads.Mark.{Mark}
 use Rattle.index_entries.specs.declared.reads.Mark.TheVariants as is
 use Rattle.index_entries.specs.Entries.{stands, queue_with, length_with, mark_of, slot_for, used_for, unmarked, added, updated_mark, removed_mark}
-use Rattle.index_entries.proofs.Found.{slot_unused, slot_last, used_unused, used_last}
+use Rattle.index_entries.proofs.Finding.{slot_unused, slot_last, used_unused, used_last}
 
 -- a Bool split with its equation
 split : {A : Type 0} (b : Bool) → (b ≡ true → A) → (b ≡ false → A) → A

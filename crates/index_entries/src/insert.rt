@@ -33,7 +33,7 @@ fn store_entry(
 }
 
 // What an insert leaves beside the tables: where the entry stands, and the lengths.
-#[derive(Drop)]
+#[derive(Clone, Copy)]
 pub struct InsertedEntry {
     pub slot: u32,
     pub generation: u32,

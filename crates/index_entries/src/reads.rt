@@ -5,7 +5,7 @@ ghost use Rattle.index_entries.specs.reads.Reads as spec;
 use index_types::{Aabb2D, Key, NodeId, flat_tables};
 
 // A mark, or none.
-#[derive(Drop)]
+#[derive(Clone, Copy)]
 pub enum Mark {
     Unmarked,
     Added,
@@ -14,14 +14,14 @@ pub enum Mark {
 }
 
 // A box, or none: above all the box that an entry without a mark had when it was updated (`prev_aabb`).
-#[derive(Drop)]
+#[derive(Clone, Copy)]
 pub enum Previous {
     None,
     Some(Aabb2D),
 }
 
 // An entry.
-#[derive(Drop)]
+#[derive(Clone, Copy)]
 pub struct Entry {
     pub aabb: Aabb2D,
     pub payload: NodeId,
@@ -30,7 +30,7 @@ pub struct Entry {
 }
 
 // What a key finds.
-#[derive(Drop)]
+#[derive(Clone, Copy)]
 pub enum Found {
     Dead,
     Live(Entry),

@@ -7,7 +7,7 @@ use crate::reads::Mark;
 use crate::slots::queue_dirty_slot;
 
 // The lengths of the free list and of the queue.
-#[derive(Drop)]
+#[derive(Clone, Copy)]
 pub struct Lengths {
     pub frees: usize,
     pub queued: usize,

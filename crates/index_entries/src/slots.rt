@@ -38,7 +38,7 @@ pub(crate) fn queue_dirty_slot(dirty: &mut [u32; 512], queued: usize, x: u32) ->
 }
 
 // The slot that an insert takes, and its generation there.
-#[derive(Drop)]
+#[derive(Clone, Copy)]
 pub struct Taken {
     pub slot: u32,
     pub generation: u32,

@@ -5,7 +5,7 @@ ghost use Rattle.counting.specs.Lists.{once_below};
 ghost use Rattle.index_sound.specs.Sound.{slot_right, sound_of};
 
 // A list of slots, counted. Where `ok` is true each is below 512 and stands in it one time, and `times` has how often each number stands.
-#[derive(Drop)]
+#[derive(Clone, Copy)]
 struct Counted {
     ok: bool,
     times: [u8; 512],

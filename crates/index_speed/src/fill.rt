@@ -7,7 +7,7 @@ use index_types::NodeId;
 use text_lines::report;
 use understory_index::{commits, inserts};
 
-#[derive(Drop)]
+#[derive(Clone, Copy)]
 pub(crate) struct Load {
     pub(crate) index: Index,
     pub(crate) sum: u64,

@@ -25,7 +25,7 @@ use Rattle.counting.proofs.Counts.{zero_at}
 use Rattle.index_entries.specs.declared.reads.Mark.{Mark}
 use Rattle.index_entries.specs.declared.reads.Mark.TheVariants as is
 use Rattle.index_entries.specs.Entries.{updated_mark, removed_mark}
-use Rattle.index_entries.proofs.Found.{live_slot}
+use Rattle.index_entries.proofs.Finding.{live_slot}
 use Rattle.index_entries.proofs.Keep.{entry_used, slot_fits, slot_empty, Kind, plain, new, moved, gone, kind}
 use Rattle.index_commit.specs.Commit.{start}
 use Rattle.index_commit.proofs.Loop.{slot_low}

@@ -20,7 +20,7 @@ use Rattle.index_sound.proofs.Exact.{count_tells, decides}
 use Rattle.index_entries.specs.declared.reads.Mark.{Mark}
 use Rattle.index_entries.specs.declared.reads.Mark.TheVariants as is
 use Rattle.index_entries.specs.Entries.{queue_with, unmarked, added}
-use Rattle.index_entries.proofs.Found.{live_slot}
+use Rattle.index_entries.proofs.Finding.{live_slot}
 use Rattle.index_entries.proofs.Keep.{keep_insert, keep_update, keep_remove}
 use Rattle.index_commit.proofs.Keep.{keep_commit, commit_whole}
 use Rattle.index_commit.specs.Commit.{start}

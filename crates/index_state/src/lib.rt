@@ -6,14 +6,14 @@ ghost use Rattle.index_state.specs.Index as spec;
 use index_types::Key;
 
 // FlatVec: a box for each slot whose entry the last commits have left there. 0 in `present` stands for none.
-#[derive(Drop)]
+#[derive(Clone, Copy)]
 pub struct FlatVec {
     pub present: [u8; 512],
     pub boxes: [f64; 2048],
 }
 
 // The tables of the slots, entry by entry; the free list and the queue of dirty slots with their lengths; and the backend.
-#[derive(Drop)]
+#[derive(Clone, Copy)]
 pub struct Index {
     pub generation: [u32; 512],
     pub mark: [u8; 512], // 0 empty, 1 unmarked, 2 added, 3 updated, from 4 on removed
@@ -30,7 +30,7 @@ pub struct Index {
 }
 
 // Why a call is refused; `number_of` in specs/Calls.antt has document 01's numbers.
-#[derive(Drop)]
+#[derive(Clone, Copy)]
 pub enum Refusal {
     Unsound,
     ShortRoom,
@@ -39,26 +39,26 @@ pub enum Refusal {
 }
 
 // What insert answers.
-#[derive(Drop)]
+#[derive(Clone, Copy)]
 pub enum Inserted {
     Key(Key),
     Refused(Refusal),
 }
 
-#[derive(Drop)]
+#[derive(Clone, Copy)]
 pub struct AfterInsert {
     pub answer: Inserted,
     pub index: Index,
 }
 
 // What update, remove and clear answer.
-#[derive(Drop)]
+#[derive(Clone, Copy)]
 pub enum Answer {
     Done,
     Refused(Refusal),
 }
 
-#[derive(Drop)]
+#[derive(Clone, Copy)]
 pub struct After {
     pub answer: Answer,
     pub index: Index,
@@ -89,7 +89,7 @@ pub fn fresh() -> Index
 }
 
 // What commit answers: how many boxes of each kind stand in the rooms; a move is an old and a new box.
-#[derive(Drop)]
+#[derive(Clone, Copy)]
 pub enum Committed {
     Damage {
         added: usize,
@@ -99,14 +99,14 @@ pub enum Committed {
     Refused(Refusal),
 }
 
-#[derive(Drop)]
+#[derive(Clone, Copy)]
 pub struct AfterCommit {
     pub answer: Committed,
     pub index: Index,
 }
 
 // What a query answers: how many entries stand in the room.
-#[derive(Drop)]
+#[derive(Clone, Copy)]
 pub enum Queried {
     Entries(usize),
     Refused(Refusal),

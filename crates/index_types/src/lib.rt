@@ -7,15 +7,15 @@ ghost use Rattle.std.specs.Prelude.{◌≡◌};
 ghost use Rattle.index_types.specs.Boxes as spec;
 
 // A node of the box tree: its index and generation. The index carries it as payload.
-#[derive(Drop)]
+#[derive(Clone, Copy)]
 pub struct NodeId(pub u32, pub u32);
 
 // An entry of the index: its slot and generation. No node id can stand for it.
-#[derive(Drop)]
+#[derive(Clone, Copy)]
 pub struct Key(pub u32, pub u32);
 
 // An axis-aligned box.
-#[derive(Drop)]
+#[derive(Clone, Copy)]
 pub struct Aabb2D {
     pub min_x: f64,
     pub min_y: f64,

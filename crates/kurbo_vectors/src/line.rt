@@ -9,7 +9,7 @@ use text_lines::spelling;
 use text_lines::spelling::{Word, float};
 
 // How a line fares. `Unknown`: its name is not one of those that were tried.
-#[derive(Drop)]
+#[derive(Clone, Copy)]
 pub(crate) enum Outcome {
     Same,
     Differs,
@@ -17,7 +17,7 @@ pub(crate) enum Outcome {
     Unknown,
 }
 
-#[derive(Drop)]
+#[derive(Clone, Copy)]
 pub(crate) enum Count {
     Words(usize),
     Malformed,

@@ -11,7 +11,7 @@ use text_lines::input;
 use text_lines::input::{Input, Space};
 
 // How many lines there were, and how many of them differ.
-#[derive(Drop)]
+#[derive(Clone, Copy)]
 struct Tally {
     lines: u64,
     differ: u64,

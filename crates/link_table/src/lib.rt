@@ -13,7 +13,7 @@ pub use crate::depths::{depths_ok, parent_at};
 pub use crate::positions::{position, segment_end};
 
 // `count` slots in pre-order, and how deep each lies: a root at 1.
-#[derive(Drop)]
+#[derive(Clone, Copy)]
 pub struct Links {
     pub order: [u32; 256],
     pub depth: [u32; 256],

@@ -20,7 +20,7 @@ use sheet_format::Answer;
 use sheet_tree::SheetTree;
 
 // How many bytes stand in front of the room, or document 01's 8.
-#[derive(Drop)]
+#[derive(Clone, Copy)]
 pub enum Written {
     Bytes(usize),
     ShortRoom,

@@ -4,7 +4,7 @@ ghost use Rattle.tree_taps.specs.Taps.{Shown};
 ghost use Rattle.sheet_answers.specs.taps.Taps as spec;
 
 // The place hit, or 0, and its depth, or 0.
-#[derive(Drop)]
+#[derive(Clone, Copy)]
 pub struct Answered {
     pub place: usize,
     pub depth: usize,

@@ -29,7 +29,7 @@ pub const CLIP_NUMBERS: usize = MOST_PLACES as usize * CLIP_WIDTH;
 pub const TAP_NUMBERS: usize = MOST_TAPS as usize * TAP_WIDTH;
 
 // A place: its parent (0 none), orientation, shift, bounds, slop, level and flags.
-#[derive(Drop)]
+#[derive(Clone, Copy)]
 pub struct PlaceLine {
     pub parent: i64,
     pub orientation: i64,
@@ -45,7 +45,7 @@ pub struct PlaceLine {
 }
 
 // A clip: its place, corners and radius.
-#[derive(Drop)]
+#[derive(Clone, Copy)]
 pub struct ClipLine {
     pub place: i64,
     pub x0: i64,
@@ -56,7 +56,7 @@ pub struct ClipLine {
 }
 
 // A tap: its point and the flags that it asks for.
-#[derive(Drop)]
+#[derive(Clone, Copy)]
 pub struct TapLine {
     pub x: i64,
     pub y: i64,
@@ -64,7 +64,7 @@ pub struct TapLine {
 }
 
 // A kind of line: a count with the most that it may be, a place, a clip on a sheet of so many places, a tap.
-#[derive(Drop)]
+#[derive(Clone, Copy)]
 pub enum Kind {
     Count(u32),
     Place,
@@ -73,7 +73,7 @@ pub enum Kind {
 }
 
 // Why a sheet is refused.
-#[derive(Drop)]
+#[derive(Clone, Copy)]
 pub enum Refusal {
     TooLong,
     Malformed,
@@ -83,20 +83,20 @@ pub enum Refusal {
 }
 
 // Lines of one kind: refused, with the line, or as many as there are, with the position behind them.
-#[derive(Drop)]
+#[derive(Clone, Copy)]
 pub enum Lines {
     Stopped(Refusal, usize),
     Ended(usize, usize),
 }
 
-#[derive(Drop)]
+#[derive(Clone, Copy)]
 pub enum Answer {
     Sheet,
     Refused(Refusal, usize),
 }
 
 // What reading a sheet gives. A table has the numbers of a line side by side; rows behind its count have no meaning.
-#[derive(Drop)]
+#[derive(Clone, Copy)]
 pub struct Parsed {
     pub answer: Answer,
     pub places: [i64; PLACE_NUMBERS],

@@ -7,28 +7,28 @@ ghost use Rattle.sheet_lines.specs.Saturated.{saturated_decimal, saturated_numbe
 pub const LINE_WIDTH: usize = 11;
 
 // What digits spell, if `good`; a number beyond 10^15 counts as 10^15, and so below.
-#[derive(Drop)]
+#[derive(Clone, Copy)]
 pub struct Digits {
     pub good: bool,
     pub n: u64,
 }
 
 // What a word spells, if `good`.
-#[derive(Drop)]
+#[derive(Clone, Copy)]
 pub struct Word {
     pub good: bool,
     pub z: i64,
 }
 
 // A line's numbers, in the first places of `row`, if `good`.
-#[derive(Drop)]
+#[derive(Clone, Copy)]
 pub struct Row {
     pub good: bool,
     pub row: [i64; LINE_WIDTH],
 }
 
 // A line's numbers, in the first places of `row`, if `good`; and the position behind its LF, good or not, or where there is no LF the position that was asked.
-#[derive(Drop)]
+#[derive(Clone, Copy)]
 pub struct LineRow {
     pub good: bool,
     pub row: [i64; LINE_WIDTH],

@@ -22,7 +22,7 @@ ghost use Rattle.sheet_reader.specs.Ahead.{ahead, moved, told_read};
 use sheet_format::Parsed;
 use sheet_lines::LINE_WIDTH;
 
-#[derive(Drop)]
+#[derive(Clone, Copy)]
 pub struct Reader<'a> {
     pub src: &'a [u8],
     pub at: usize,
@@ -30,7 +30,7 @@ pub struct Reader<'a> {
 
 // A line's numbers, in the first places of `row`, if `good`; and the reader behind the line, good or not, or where there is no LF ahead as it was.
 // What `row` holds behind `width`, and all of it where not `good`, is the program's choice.
-#[derive(Drop)]
+#[derive(Clone, Copy)]
 pub struct ReadLine<'a> {
     pub good: bool,
     pub row: [i64; LINE_WIDTH],

@@ -5,7 +5,7 @@ ghost use Rattle.sheet_calls.specs.Good.{Small};
 ghost use Rattle.sheet_records.specs.orientations.Turns as spec;
 
 // (x, y) goes to (a·x + c·y, b·x + d·y), in whole numbers.
-#[derive(Drop)]
+#[derive(Clone, Copy)]
 pub struct Linear {
     pub a: i64,
     pub b: i64,

@@ -15,7 +15,7 @@ use tree_state::Tree;
 
 // The committed tree of a sheet and the sheet's taps; or the refusal, with a fresh tree and no taps: look at `answer` first.
 // What `taps` holds behind the first `tapped` is the program's choice.
-#[derive(Drop)]
+#[derive(Clone, Copy)]
 pub struct SheetTree {
     pub answer: Answer,
     pub tree: Tree,

@@ -11,7 +11,7 @@ use tree_types::{LocalNode, OptionNodeId};
 // ---- the place's links
 
 // Where a new place goes in among the linked ones, and how deep it lies.
-#[derive(Drop)]
+#[derive(Clone, Copy)]
 struct Spot {
     at: usize,
     depth: u32,

@@ -9,51 +9,51 @@ use index_types::NodeId;
 use text_lines::line;
 use tree_types::{LocalNode, NodeFlags, OptionNodeId};
 
-#[derive(Drop)]
+#[derive(Clone, Copy)]
 pub(crate) struct ReadId {
     pub(crate) is_read: bool,
     pub(crate) id: NodeId,
 }
 
-#[derive(Drop)]
+#[derive(Clone, Copy)]
 pub(crate) struct ReadParent {
     pub(crate) is_read: bool,
     pub(crate) parent: OptionNodeId,
 }
 
-#[derive(Drop)]
+#[derive(Clone, Copy)]
 pub(crate) struct ReadRect {
     pub(crate) is_read: bool,
     pub(crate) rect: Rect,
 }
 
-#[derive(Drop)]
+#[derive(Clone, Copy)]
 pub(crate) struct ReadInsets {
     pub(crate) is_read: bool,
     pub(crate) insets: Insets,
 }
 
-#[derive(Drop)]
+#[derive(Clone, Copy)]
 pub(crate) struct ReadAffine {
     pub(crate) is_read: bool,
     pub(crate) tf: Affine,
 }
 
 // A clip, and where the word after it stands.
-#[derive(Drop)]
+#[derive(Clone, Copy)]
 pub(crate) struct ReadClip {
     pub(crate) is_read: bool,
     pub(crate) clip: Clip,
     pub(crate) next: usize,
 }
 
-#[derive(Drop)]
+#[derive(Clone, Copy)]
 pub(crate) struct ReadFlags {
     pub(crate) is_read: bool,
     pub(crate) flags: NodeFlags,
 }
 
-#[derive(Drop)]
+#[derive(Clone, Copy)]
 pub(crate) struct ReadLocal {
     pub(crate) is_read: bool,
     pub(crate) local: LocalNode,

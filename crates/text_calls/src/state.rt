@@ -5,7 +5,7 @@ ghost use Rattle.text_calls.specs.state.Lists as spec;
 use tree_state::Tree;
 
 // The tree, and how many ids and rectangles the room holds that a call is lent.
-#[derive(Drop)]
+#[derive(Clone, Copy)]
 pub struct State {
     pub tree: Tree,
     pub ids: u32,

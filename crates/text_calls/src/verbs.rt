@@ -1,7 +1,7 @@
 // The calls by name. A further call is one name and one arm at the end of its group here, one variant, and one arm where its group is made.
 use text_lines::line;
 
-#[derive(Drop)]
+#[derive(Clone, Copy)]
 pub(crate) enum Verb {
     New,
     Room,

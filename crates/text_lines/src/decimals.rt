@@ -5,28 +5,28 @@ use crate::spelling;
 use crate::words::start;
 
 // A 32-bit whole number, if `is_read`; else 0, and so below.
-#[derive(Drop)]
+#[derive(Clone, Copy)]
 pub struct Whole {
     pub is_read: bool,
     pub value: u32,
 }
 
 // A byte.
-#[derive(Drop)]
+#[derive(Clone, Copy)]
 pub struct Byte {
     pub is_read: bool,
     pub value: u8,
 }
 
 // A 32-bit whole number with a sign.
-#[derive(Drop)]
+#[derive(Clone, Copy)]
 pub struct Signed {
     pub is_read: bool,
     pub value: i32,
 }
 
 // An index and a generation.
-#[derive(Drop)]
+#[derive(Clone, Copy)]
 pub struct Pair {
     pub is_read: bool,
     pub index: u32,

@@ -13,7 +13,7 @@ pub type Block = [u8; 65536];
 pub type Space = [u8; 512];
 
 // Where the reading stands: at the byte `at` of a block that ends at `end`, with the first `length` bytes of the space in use.
-#[derive(Drop)]
+#[derive(Clone, Copy)]
 pub struct Input {
     at: usize,
     end: usize,

@@ -6,7 +6,7 @@ ghost use Rattle.io.specs.Counts.{IsPrefixLen};
 ghost use Rattle.text_lines.specs.spelling.Words as spec;
 
 // The 64 bits that a word spells, if it does.
-#[derive(Drop)]
+#[derive(Clone, Copy)]
 pub enum Word {
     Bits(u64),
     None,

@@ -8,14 +8,14 @@ use crate::spelling;
 use crate::spelling::Word;
 
 // An f64.
-#[derive(Drop)]
+#[derive(Clone, Copy)]
 pub struct Number {
     pub is_read: bool,
     pub value: f64,
 }
 
 // Four f64 in a row.
-#[derive(Drop)]
+#[derive(Clone, Copy)]
 pub struct Four {
     pub is_read: bool,
     pub x0: f64,

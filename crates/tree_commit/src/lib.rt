@@ -11,13 +11,13 @@ use tree_state::{Refusal, Tree, Verdict};
 use tree_verdicts::nodes;
 
 // What commit answers: how many rectangles of damage stand in front of the room, four numbers each.
-#[derive(Drop)]
+#[derive(Clone, Copy)]
 pub enum Committed {
     Damage(usize),
     Refused(Refusal),
 }
 
-#[derive(Drop)]
+#[derive(Clone, Copy)]
 pub struct AfterCommit {
     pub answer: Committed,
     pub tree: Tree,

@@ -10,7 +10,7 @@ use tree_state::{Keys, Marks, Pending, Tree, Worlds};
 use tree_verdicts::need;
 
 // How many rectangles of damage stand in front of the room, four numbers each, and the tree.
-#[derive(Drop)]
+#[derive(Clone, Copy)]
 pub struct Done {
     pub count: usize,
     pub tree: Tree,

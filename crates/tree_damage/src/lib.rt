@@ -8,7 +8,7 @@ use geometry::rect::Rect;
 use index_types::flat_tables::box_in;
 
 // The union of the rectangles so far, if there is one; or the refusal 8, where the room is shorter than its count says.
-#[derive(Drop)]
+#[derive(Clone, Copy)]
 pub enum Joined {
     None,
     Some(Rect),

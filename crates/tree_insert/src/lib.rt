@@ -18,13 +18,13 @@ use tree_types::{LocalNode, OptionNodeId};
 use tree_verdicts::marks;
 
 // The new node's id, or why there is none; tree_run's `insert_told` has document 01's numbers.
-#[derive(Drop)]
+#[derive(Clone, Copy)]
 pub enum Inserted {
     Node(NodeId),
     Refused(Refusal),
 }
 
-#[derive(Drop)]
+#[derive(Clone, Copy)]
 pub struct AfterInsert {
     pub answer: Inserted,
     pub tree: Tree,

@@ -11,7 +11,7 @@ use tree_types::QueryFilter;
 use tree_verdicts::requests;
 
 // What a listing answers: how many ids stand in front of the room, two numbers each.
-#[derive(Drop)]
+#[derive(Clone, Copy)]
 pub enum Listed {
     Nodes(usize),
     Refused(Refusal),

@@ -7,49 +7,49 @@ use index_types::NodeId;
 use tree_state::Refusal;
 use tree_types::NodeFlags;
 
-#[derive(Drop)]
+#[derive(Clone, Copy)]
 pub enum AnswerBool {
     Value(bool),
     Refused(Refusal),
 }
 
-#[derive(Drop)]
+#[derive(Clone, Copy)]
 pub enum AnswerTransform {
     Value(Affine),
     Refused(Refusal),
 }
 
-#[derive(Drop)]
+#[derive(Clone, Copy)]
 pub enum AnswerClip {
     Value(Clip),
     Refused(Refusal),
 }
 
-#[derive(Drop)]
+#[derive(Clone, Copy)]
 pub enum AnswerRect {
     Value(Rect),
     Refused(Refusal),
 }
 
-#[derive(Drop)]
+#[derive(Clone, Copy)]
 pub enum AnswerInsets {
     Value(Insets),
     Refused(Refusal),
 }
 
-#[derive(Drop)]
+#[derive(Clone, Copy)]
 pub enum AnswerLevel {
     Value(i32),
     Refused(Refusal),
 }
 
-#[derive(Drop)]
+#[derive(Clone, Copy)]
 pub enum AnswerFlags {
     Value(NodeFlags),
     Refused(Refusal),
 }
 
-#[derive(Drop)]
+#[derive(Clone, Copy)]
 pub enum AnswerNode {
     None,
     Some(NodeId),
@@ -57,7 +57,7 @@ pub enum AnswerNode {
 }
 
 // How many ids stand in front of the lent room.
-#[derive(Drop)]
+#[derive(Clone, Copy)]
 pub enum AnswerIds {
     Ids(usize),
     Refused(Refusal),

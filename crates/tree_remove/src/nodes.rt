@@ -8,7 +8,7 @@ use crate::steps::{push_damage_rect, remove_key};
 use index_types::Key;
 
 // The lengths of the free list, of the pending rectangles, and of the index's free list and queue.
-#[derive(Drop)]
+#[derive(Clone, Copy)]
 pub struct Left {
     pub slots_frees: usize,
     pub pending_count: usize,

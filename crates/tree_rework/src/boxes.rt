@@ -32,7 +32,7 @@ fn push_area(room: &mut [f64], n: usize, changed: bool, r: Rect) -> usize
 }
 
 // What the boxes of a node leave: how many rectangles of damage there are, the hit box, and whether it is the same as before.
-#[derive(Drop)]
+#[derive(Clone, Copy)]
 pub struct Boxed {
     pub count: usize,
     pub hit: Rect,

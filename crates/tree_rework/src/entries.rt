@@ -8,7 +8,7 @@ use index_entries::Found;
 use index_types::{Aabb2D, Key, NodeId};
 
 // How many slots of the index are used, freed and queued once a node has its entry.
-#[derive(Drop)]
+#[derive(Clone, Copy)]
 pub struct EnteredNode {
     pub used: usize,
     pub frees: usize,

@@ -15,7 +15,7 @@ ghost use Rattle.tree_rework.specs.preconditions.Fits.{Fits, Ready, from};
 use index_types::NodeId;
 
 // How many slots of the index are used, freed and queued, and how many rectangles of damage there are.
-#[derive(Drop)]
+#[derive(Clone, Copy)]
 pub struct Reworked {
     pub used: usize,
     pub frees: usize,

@@ -5,7 +5,7 @@ ghost use Rattle.counting.specs.Lists.{once_below};
 ghost use Rattle.tree_state.specs.Sound.{slots_right};
 
 // A list of slots, counted. Where `ok` is true, `times` has how often each number stands in it.
-#[derive(Drop)]
+#[derive(Clone, Copy)]
 pub struct Counted {
     pub ok: bool,
     pub times: [u8; 256],

@@ -3,7 +3,7 @@ use crate::{answers, work};
 use index_types::NodeId;
 use tree_state::Tree;
 
-#[derive(Drop)]
+#[derive(Clone, Copy)]
 pub(crate) struct Load {
     pub(crate) tree: Tree,
     pub(crate) sum: u64,

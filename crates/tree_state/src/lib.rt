@@ -7,7 +7,7 @@ use index_state::Index;
 use link_table::Links;
 
 // Generations of the used slots, and the free list, the last freed at its end.
-#[derive(Drop)]
+#[derive(Clone, Copy)]
 pub struct Slots {
     pub generation: [u32; 256],
     pub used: usize,
@@ -16,7 +16,7 @@ pub struct Slots {
 }
 
 // Local records.
-#[derive(Drop)]
+#[derive(Clone, Copy)]
 pub struct Locals {
     pub bounds: [f64; 1024],
     pub slop: [f64; 1024],
@@ -28,7 +28,7 @@ pub struct Locals {
 }
 
 // World records of the last commits. A node's inverse and its depth are worked out where they are asked for.
-#[derive(Drop)]
+#[derive(Clone, Copy)]
 pub struct Worlds {
     pub transform: [f64; 1536],
     pub clipped: [bool; 256], // whether there is a world clip
@@ -38,7 +38,7 @@ pub struct Worlds {
 }
 
 // A mark for each node, and whether it counts as changed in transform and in clip.
-#[derive(Drop)]
+#[derive(Clone, Copy)]
 pub struct Marks {
     pub marked: [bool; 256],
     pub transform: [bool; 256],
@@ -46,7 +46,7 @@ pub struct Marks {
 }
 
 // The key of a committed node's entry.
-#[derive(Drop)]
+#[derive(Clone, Copy)]
 pub struct Keys {
     pub committed: [bool; 256],
     pub slot: [u32; 256],
@@ -54,13 +54,13 @@ pub struct Keys {
 }
 
 // Pending rectangles: the world boxes, those with area, of nodes that were removed since the last commit.
-#[derive(Drop)]
+#[derive(Clone, Copy)]
 pub struct Pending {
     pub rects: [f64; 1024],
     pub count: usize,
 }
 
-#[derive(Drop)]
+#[derive(Clone, Copy)]
 pub struct Tree {
     pub slots: Slots,
     pub links: Links,
@@ -73,7 +73,7 @@ pub struct Tree {
 }
 
 // Why a call is refused; `spec.number_of` has document 01's numbers.
-#[derive(Drop)]
+#[derive(Clone, Copy)]
 pub enum Refusal {
     Unsound,
     DeadNode,
@@ -86,14 +86,14 @@ pub enum Refusal {
     Full,
 }
 
-#[derive(Drop)]
+#[derive(Clone, Copy)]
 pub enum Verdict {
     Accepted,
     Refused(Refusal),
 }
 
 // What a call that changes the tree answers, and the tree after it.
-#[derive(Drop)]
+#[derive(Clone, Copy)]
 pub struct After {
     pub answer: Verdict,
     pub tree: Tree,

@@ -15,7 +15,7 @@ use tree_types::QueryFilter;
 use tree_verdicts::{nodes, requests};
 
 // What a tap answers: the node, and how many ids stand in front of the room, its path from the root.
-#[derive(Drop)]
+#[derive(Clone, Copy)]
 pub enum Tapped {
     Nothing,
     Hit(NodeId, usize),

@@ -10,14 +10,14 @@ use geometry_clips::clip::Clip;
 use index_types::{Aabb2D, NodeId};
 
 // Where the Rust has an Option<NodeId>: a parent or none, a next node or none.
-#[derive(Drop)]
+#[derive(Clone, Copy)]
 pub enum OptionNodeId {
     None,
     Some(NodeId),
 }
 
 // A flag byte; above 7 it is refused with 6 wherever it would be stored or asked for.
-#[derive(Drop)]
+#[derive(Clone, Copy)]
 pub struct NodeFlags(pub u8);
 
 const VISIBLE: u8 = 1;
@@ -50,7 +50,7 @@ impl NodeFlags {
 }
 
 // A node's local record.
-#[derive(Drop)]
+#[derive(Clone, Copy)]
 pub struct LocalNode {
     pub local_bounds: Rect,
     pub hit_slop: Insets,
@@ -88,7 +88,7 @@ impl LocalNode {
 }
 
 // What a request asks of a node's flags.
-#[derive(Drop)]
+#[derive(Clone, Copy)]
 pub struct QueryFilter {
     pub required_flags: NodeFlags,
 }

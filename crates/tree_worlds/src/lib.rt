@@ -11,7 +11,7 @@ use geometry::rect::Rect;
 use geometry_clips::clip::{Clip, ClipRect};
 
 // What a node hands down to its children: its world transform and its world clip.
-#[derive(Drop)]
+#[derive(Clone, Copy)]
 pub struct Placed {
     pub transform: Affine,
     pub clip: ClipRect,

@@ -11,7 +11,7 @@ use tree_state::{After, Tree};
 use tree_types::{LocalNode, NodeFlags, OptionNodeId, QueryFilter};
 
 // Not refused 1; refused 1, and all is left as it was; refused 1 with a change.
-#[derive(Drop)]
+#[derive(Clone, Copy)]
 enum Outcome {
     Other,
     Left,
@@ -29,7 +29,7 @@ fn judged(one: bool, left: bool) -> Outcome {
 }
 
 // What the calls are handed: a node, a parent for it, a number that stands in every value, and flags.
-#[derive(Drop)]
+#[derive(Clone, Copy)]
 struct Handed {
     id: NodeId,
     parent: NodeId,
@@ -257,7 +257,7 @@ fn one_call(t: Tree, call: usize, bad: bool) -> Outcome {
 }
 
 // How many calls there were, how many of them were refused 1, and how many of these changed something.
-#[derive(Drop)]
+#[derive(Clone, Copy)]
 pub(crate) struct Tally {
     pub(crate) calls: u32,
     pub(crate) refused: u32,

@@ -205,7 +205,7 @@ fn boxes(mut t: Tree, table: usize, i: usize, v: f64) -> Tree {
 }
 
 // A table by its name: which of those of its type.
-#[derive(Drop)]
+#[derive(Clone, Copy)]
 enum Table {
     Words(usize),
     Entries(usize),
@@ -258,7 +258,7 @@ fn table_of(line: &[u8]) -> Table {
 }
 
 // What a line says, and whether it does.
-#[derive(Drop)]
+#[derive(Clone, Copy)]
 pub(crate) struct Change {
     pub(crate) is_read: bool,
     table: Table,

@@ -24,7 +24,7 @@ use Rattle.link_forest.specs.Forest.{Forest, has}
 use Rattle.index_entries.specs.declared.reads.Mark.{Mark}
 use Rattle.index_entries.specs.declared.reads.Mark.TheVariants as is
 use Rattle.index_entries.specs.Entries.{queue_with, unmarked, updated_mark}
-use Rattle.index_entries.proofs.Found.{slot_unused}
+use Rattle.index_entries.proofs.Finding.{slot_unused}
 use Rattle.index_entries.proofs.Keep.{slot_empty, keep_insert, keep_update}
 use Rattle.index_state.specs.declared.Index.{Index}
 use Rattle.index_state.specs.Index.{slot_of, generation_of, insert_of, update_of, mark_at}

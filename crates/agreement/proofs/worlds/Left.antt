@@ -14,7 +14,7 @@ use Rattle.counting.specs.Times.{times}
 use Rattle.tree_types.specs.Local.{rect_to_aabb}
 use Rattle.link_forest.specs.Forest.{Forest, has}
 use Rattle.index_entries.specs.Entries.{updated_mark}
-use Rattle.index_entries.proofs.Found.{slot_unused}
+use Rattle.index_entries.proofs.Finding.{slot_unused}
 use Rattle.index_entries.proofs.Keep.{slot_empty, kind}
 use Rattle.index_commit.specs.Commit as commit
 use Rattle.index_commit.specs.Commit.{Act, rests, adds, moves, drops, act_of, kept_step, start, work, work_step}

@@ -16,7 +16,7 @@ use Rattle.index_types.specs.declared.Aabb2D.{Aabb2D}
 use Rattle.link_forest.specs.Forest.{Forest}
 use Rattle.link_forest.proofs.Counting.{has_count}
 use Rattle.link_forest.proofs.Rep.{rep_times}
-use Rattle.index_entries.proofs.Found.{used_unused, used_last}
+use Rattle.index_entries.proofs.Finding.{used_unused, used_last}
 use Rattle.index_entries.proofs.Keep.{slot_fits}
 use Rattle.index_sound.proofs.Exact.{counted}
 use Rattle.index_sound.specs.Sound.{CountOf}

@@ -15,7 +15,7 @@ use Rattle.link_forest.proofs.Bools.{never}
 use Rattle.index_entries.specs.declared.reads.Mark.{Mark}
 use Rattle.index_entries.specs.declared.reads.Mark.TheVariants as is
 use Rattle.index_entries.specs.Entries.{updated_mark}
-use Rattle.index_entries.proofs.Found.{slot_unused}
+use Rattle.index_entries.proofs.Finding.{slot_unused}
 use Rattle.index_entries.proofs.Keep.{slot_empty, keep_insert, keep_update}
 use Rattle.index_sound.proofs.Exact.{counted}
 use Rattle.index_state.specs.declared.Index.{Index}

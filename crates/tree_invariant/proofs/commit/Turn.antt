@@ -16,7 +16,7 @@ use Rattle.tree_types.specs.Local.{rect_to_aabb}
 use Rattle.link_forest.specs.Forest.{Forest, has}
 use Rattle.link_forest.proofs.Bools.{never}
 use Rattle.index_entries.specs.Entries.{stands}
-use Rattle.index_entries.proofs.Found.{used_unused, used_last}
+use Rattle.index_entries.proofs.Finding.{used_unused, used_last}
 use Rattle.index_entries.proofs.Keep.{slot_fits, queue_of, queue_room}
 use Rattle.index_state.specs.declared.Index.{Index}
 use Rattle.index_state.specs.Index.{slot_of}

@@ -16,7 +16,7 @@ use Rattle.index_entries.specs.declared.reads.Found.TheVariants as finds
 use Rattle.index_entries.specs.declared.reads.Mark.{Mark}
 use Rattle.index_entries.specs.declared.reads.Mark.TheVariants as is
 use Rattle.index_entries.specs.Entries.{queue_with, length_with, mark_of, live_key, look_up, unmarked, added, removed_mark}
-use Rattle.index_entries.proofs.Found.{look_live, look_dead}
+use Rattle.index_entries.proofs.Finding.{look_live, look_dead}
 use Rattle.tree_state.specs.Lent.{pending}
 use Rattle.tree_steps.specs.Structure.{push_rect}
 use Rattle.tree_remove.specs.steps.Node.{Owned}

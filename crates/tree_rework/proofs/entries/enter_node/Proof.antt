@@ -11,7 +11,7 @@ use Rattle.index_state.specs.declared.FlatVec.{FlatVec}
 use Rattle.index_state.specs.declared.Index.{Index}
 use Rattle.tree_state.specs.declared.Keys.{Keys}
 use Rattle.tree_state.specs.Lent as lent
-use Rattle.index_entries.proofs.Found.{look_live, look_dead, live_slot}
+use Rattle.index_entries.proofs.Finding.{look_live, look_dead, live_slot}
 use Rattle.tree_rework.proofs.entries.Enter.{queue_whole, entered_new, keyed_new, keyed_old, entered_same, entered_other}
 use Rattle.tree_rework.proofs.entries.enter_node.Statement.{statement}
 use Rattle.tree_rework.proofs.entries.enter_node.Tie as tie

@@ -8,7 +8,7 @@ use Rattle.index_state.proofs.Calls.{unsound, remove_dead, refuses, remove_done}
 use Rattle.index_state.specs.Index.{sound_index}
 use Rattle.index_state.specs.Calls.{remove}
 use Rattle.index_entries.proofs.Keep.{queue_of, queue_room, free_room}
-use Rattle.index_entries.proofs.Found.{look_live, look_dead, live_slot}
+use Rattle.index_entries.proofs.Finding.{look_live, look_dead, live_slot}
 use Rattle.index_sound.proofs.Exact.{count_tells}
 use Rattle.index_sound.specs.Sound.{CountOf}
 use Rattle.understory_index.proofs.updates.remove.Statement.{statement}

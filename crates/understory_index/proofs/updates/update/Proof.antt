@@ -8,7 +8,7 @@ use Rattle.index_state.proofs.Calls.{unsound, update_dead, refuses, update_done}
 use Rattle.index_state.specs.Index.{sound_index}
 use Rattle.index_state.specs.Calls.{update}
 use Rattle.index_entries.proofs.Keep.{queue_of, queue_room}
-use Rattle.index_entries.proofs.Found.{look_live, look_dead, live_slot}
+use Rattle.index_entries.proofs.Finding.{look_live, look_dead, live_slot}
 use Rattle.index_sound.proofs.Exact.{count_tells}
 use Rattle.index_sound.specs.Sound.{CountOf}
 use Rattle.understory_index.proofs.updates.update.Statement.{statement}
