@@ -20,7 +20,8 @@ fn answer_line(out: &mut Buffer, used: &mut usize, space: &Space, p: Input, s: S
 }
 
 // A proved loop has to end, and nothing says that the input does: the turns are counted down from a number that no run uses up.
-fn main() {
+fn main(rt: HostRuntime) {
+    let mut reader = rt.stdin();
     let mut block = io::large_buffer();
     let mut space = [0u8; 512];
     let mut out = io::large_buffer();
@@ -29,7 +30,7 @@ fn main() {
     let mut s = calls::start();
     let mut turns = u64::MAX;
     while turns > 0 && p.is_open {
-        p = input::next(&mut block, &mut space, p);
+        p = input::next(&mut reader, &mut block, &mut space, p);
         s = answer_line(&mut out, &mut used, &space, p, s);
         used = input::written(&out, used, p);
         turns -= 1;

@@ -3,6 +3,7 @@ ghost use Rattle.std.specs.Prelude.{◌≡◌, length};
 
 use crate::{answers, fill, work};
 use index_state::Index;
+use std::time::CpuClock;
 use text_lines::report;
 use understory_index::queries;
 
@@ -79,43 +80,43 @@ fn all_refusals(ix: Index, height: f64, rounds: u32) -> u64 {
     sum
 }
 
-fn point_phase(name: &[u8], n: u32, rounds: u32) {
+fn point_phase(rt: &impl CpuClock, name: &[u8], n: u32, rounds: u32) {
     let load = fill::committed(n);
     let ix = load.index;
     let height = (n / 8) as f64 * 10.0;
-    let began = report::clock();
+    let began = report::clock(rt);
     let sum = all_points(ix, height, rounds);
-    let ended = report::clock();
+    let ended = report::clock(rt);
     report::phase(name, 64, began, ended, sum);
 }
 
-fn rect_phase(name: &[u8], n: u32, rounds: u32) {
+fn rect_phase(rt: &impl CpuClock, name: &[u8], n: u32, rounds: u32) {
     let load = fill::committed(n);
     let ix = load.index;
     let height = (n / 8) as f64 * 10.0;
-    let began = report::clock();
+    let began = report::clock(rt);
     let sum = all_rects(ix, height, rounds);
-    let ended = report::clock();
+    let ended = report::clock(rt);
     report::phase(name, 64, began, ended, sum);
 }
 
-fn refusal_phase(name: &[u8], n: u32, rounds: u32) {
+fn refusal_phase(rt: &impl CpuClock, name: &[u8], n: u32, rounds: u32) {
     let load = fill::committed(n);
     let ix = load.index;
     let height = (n / 8) as f64 * 10.0;
-    let began = report::clock();
+    let began = report::clock(rt);
     let sum = all_refusals(ix, height, rounds);
-    let ended = report::clock();
+    let ended = report::clock(rt);
     report::phase(name, 64, began, ended, sum);
 }
 
-pub(crate) fn phases(rounds: u32) {
-    point_phase(b"point_64", 64, rounds);
-    point_phase(b"point_512", 512, rounds);
-    rect_phase(b"rect_64", 64, rounds);
-    rect_phase(b"rect_512", 512, rounds);
+pub(crate) fn phases(rt: &impl CpuClock, rounds: u32) {
+    point_phase(rt, b"point_64", 64, rounds);
+    point_phase(rt, b"point_512", 512, rounds);
+    rect_phase(rt, b"rect_64", 64, rounds);
+    rect_phase(rt, b"rect_512", 512, rounds);
 }
 
-pub(crate) fn own_phase(rounds: u32) {
-    refusal_phase(b"own_refusal_512", 512, rounds);
+pub(crate) fn own_phase(rt: &impl CpuClock, rounds: u32) {
+    refusal_phase(rt, b"own_refusal_512", 512, rounds);
 }

@@ -3,6 +3,7 @@
 use crate::fill::Load;
 use crate::{answers, fill, work};
 use index_types::Key;
+use std::time::CpuClock;
 use text_lines::report;
 use understory_index::{commits, updates};
 
@@ -135,45 +136,45 @@ fn agains(
     sum
 }
 
-fn update_phase(rounds: u32) {
+fn update_phase(rt: &impl CpuClock, rounds: u32) {
     let load = fill::committed(512);
-    let began = report::clock();
+    let began = report::clock(rt);
     let after = updates(load, rounds);
-    let ended = report::clock();
+    let ended = report::clock(rt);
     report::phase(b"update", 512, began, ended, after.sum);
 }
 
-fn single_phase(rounds: u32) {
+fn single_phase(rt: &impl CpuClock, rounds: u32) {
     let mut added = fill::box_room();
     let mut removed = fill::box_room();
     let mut old = fill::box_room();
     let mut new = fill::box_room();
     let load = fill::committed(512);
-    let began = report::clock();
+    let began = report::clock(rt);
     let after = singles(load, rounds, &mut added, &mut removed, &mut old, &mut new);
-    let ended = report::clock();
+    let ended = report::clock(rt);
     report::phase(b"update_commit_1", 512, began, ended, after.sum);
 }
 
-fn batch_phase(rounds: u32) {
+fn batch_phase(rt: &impl CpuClock, rounds: u32) {
     let mut added = fill::box_room();
     let mut removed = fill::box_room();
     let mut old = fill::box_room();
     let mut new = fill::box_room();
     let load = fill::committed(512);
-    let began = report::clock();
+    let began = report::clock(rt);
     let after = batches(load, rounds, &mut added, &mut removed, &mut old, &mut new);
-    let ended = report::clock();
+    let ended = report::clock(rt);
     report::phase(b"update_commit_512", 512, began, ended, after.sum);
 }
 
-pub(crate) fn own_phase(rounds: u32) {
+pub(crate) fn own_phase(rt: &impl CpuClock, rounds: u32) {
     let mut added = fill::box_room();
     let mut removed = fill::box_room();
     let mut old = fill::box_room();
     let mut new = fill::box_room();
     let waiting = fill::insert(512, 0);
-    let began = report::clock();
+    let began = report::clock(rt);
     let sum = agains(
         waiting,
         rounds,
@@ -182,12 +183,12 @@ pub(crate) fn own_phase(rounds: u32) {
         &mut old,
         &mut new,
     );
-    let ended = report::clock();
+    let ended = report::clock(rt);
     report::phase(b"own_commit_512", 64, began, ended, sum);
 }
 
-pub(crate) fn phases(rounds: u32) {
-    update_phase(rounds);
-    single_phase(rounds);
-    batch_phase(rounds);
+pub(crate) fn phases(rt: &impl CpuClock, rounds: u32) {
+    update_phase(rt, rounds);
+    single_phase(rt, rounds);
+    batch_phase(rt, rounds);
 }

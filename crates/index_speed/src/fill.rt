@@ -4,6 +4,7 @@ ghost use Rattle.std.specs.Prelude.{◌≡◌, length};
 use crate::{answers, work};
 use index_state::Index;
 use index_types::NodeId;
+use std::time::CpuClock;
 use text_lines::report;
 use understory_index::{commits, inserts};
 
@@ -89,17 +90,17 @@ pub(crate) fn committed(n: u32) -> Load {
     commit(insert(n, 0), &mut added, &mut removed, &mut old, &mut new)
 }
 
-pub(crate) fn phases(rounds: u32) {
-    let began = report::clock();
+pub(crate) fn phases(rt: &impl CpuClock, rounds: u32) {
+    let began = report::clock(rt);
     let sum = inserts(rounds);
-    let ended = report::clock();
+    let ended = report::clock(rt);
     report::phase(b"insert", 512, began, ended, sum);
     let mut added = box_room();
     let mut removed = box_room();
     let mut old = box_room();
     let mut new = box_room();
-    let start = report::clock();
+    let start = report::clock(rt);
     let total = commits(rounds, &mut added, &mut removed, &mut old, &mut new);
-    let end = report::clock();
+    let end = report::clock(rt);
     report::phase(b"insert_commit", 512, start, end, total);
 }

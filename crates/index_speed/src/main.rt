@@ -9,12 +9,12 @@ mod ask; // queries
 
 use text_lines::report;
 
-fn main() {
-    let rounds = report::rounds();
+fn main(rt: HostRuntime) {
+    let rounds = report::rounds(&mut rt.stdin());
     report::total(b"rounds", 1, rounds as u64);
-    fill::phases(rounds);
-    change::phases(rounds);
-    ask::phases(rounds);
-    change::own_phase(rounds);
-    ask::own_phase(rounds);
+    fill::phases(&rt, rounds);
+    change::phases(&rt, rounds);
+    ask::phases(&rt, rounds);
+    change::own_phase(&rt, rounds);
+    ask::own_phase(&rt, rounds);
 }

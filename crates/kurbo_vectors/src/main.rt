@@ -7,6 +7,7 @@ mod number_ops;
 mod rect_ops;
 
 use crate::line::{Count, Outcome};
+use std::io::Read;
 use text_lines::input;
 use text_lines::input::{Input, Space};
 
@@ -99,7 +100,7 @@ fn close(p: Input, c: Tally) -> Tally {
 }
 
 // A proved loop has to end, and nothing says that the input does: the turns are counted down from a number that no run uses up.
-fn read_all() -> Tally {
+fn read_all<R: Read>(reader: &mut R) -> Tally {
     let mut block = io::large_buffer();
     let mut space = [0u8; 512];
     let mut p = input::start();
@@ -109,15 +110,15 @@ fn read_all() -> Tally {
     };
     let mut turns = u64::MAX;
     while turns > 0 && p.is_open {
-        p = input::next(&mut block, &mut space, p);
+        p = input::next(reader, &mut block, &mut space, p);
         c = run_line(&space, p, c);
         turns -= 1;
     }
     close(p, c)
 }
 
-fn main() {
-    let c = read_all();
+fn main(rt: HostRuntime) {
+    let c = read_all(&mut rt.stdin());
     io::print_decimal(1, c.lines);
     io::write_all(1, b" vectors, ");
     io::print_decimal(1, c.differ);

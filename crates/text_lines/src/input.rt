@@ -1,10 +1,11 @@
-// Standard input by lines. It is read block by block; a line that goes on in the next block is held until it is whole.
+// A reader by lines. It is read block by block; a line that goes on in the next block is held until it is whole.
 ghost use Rattle.std.specs.Prelude.{◌<◌, ◌≤◌, length};
 ghost use Rattle.io.specs.Counts.{IsPrefixLen};
 
 use crate::print;
 use crate::print::Buffer;
 use crate::spelling::within;
+use std::io::Read;
 
 // What was read last.
 pub type Block = [u8; 65536];
@@ -68,16 +69,24 @@ fn cut(block: &[u8], space: &mut Space, held: usize, at: usize, end: usize) -> I
 }
 
 // A further block. Nothing is the end of the input, or a read that failed; a last line without its line end is a line.
-fn fill(block: &mut Block, held: usize) -> Input {
-    let got = libc::read(0, block);
-    let n = io::count(got, block);
-    Input {
-        at: 0,
-        end: n,
-        length: held,
-        is_line: (n == 0) & (held > 0),
-        is_open: n > 0,
-        is_read: got >= 0,
+fn fill<R: Read>(reader: &mut R, block: &mut Block, held: usize) -> Input {
+    match reader.read(block) {
+        Ok(n) => Input {
+            at: 0,
+            end: n,
+            length: held,
+            is_line: (n == 0) & (held > 0),
+            is_open: n > 0,
+            is_read: true,
+        },
+        Err(_) => Input {
+            at: 0,
+            end: 0,
+            length: held,
+            is_line: held > 0,
+            is_open: false,
+            is_read: false,
+        },
     }
 }
 
@@ -87,14 +96,14 @@ fn begun(s: Input) -> usize {
 }
 
 // Inner: the next line, or what the block has of it; or, where the block is used up, a further one.
-pub fn next(block: &mut Block, space: &mut Space, s: Input) -> Input {
+pub fn next<R: Read>(reader: &mut R, block: &mut Block, space: &mut Space, s: Input) -> Input {
     let held = begun(s);
     let at = s.at;
     let end = within(s.end, block);
     if at < end {
         return cut(block, space, held, at, end);
     }
-    fill(block, held)
+    fill(reader, block, held)
 }
 
 // How many bytes the line has.

@@ -2,6 +2,8 @@
 ghost use Rattle.std.specs.Prelude.{◌≤◌};
 
 use crate::spelling::digit;
+use std::io::Read;
+use std::time::CpuClock;
 
 // The first decimal digits, at most four.
 fn number(s: &[u8]) -> u64
@@ -23,13 +25,12 @@ fn number(s: &[u8]) -> u64
     n
 }
 
-// The number that is read on standard input; nothing and 0 stand for 1.
-pub fn rounds() -> u32
+// The number that is read, of one read's bytes; nothing, 0 and a read that fails stand for 1.
+pub fn rounds<R: Read>(reader: &mut R) -> u32
     ensures { result ≤ 9999 }
 {
     let mut block = io::buffer();
-    let got = libc::read(0, &mut block);
-    let n = io::count(got, &block);
+    let n = reader.read(&mut block).unwrap_or(0);
     let asked = number(&block[..n]);
     if asked == 0 {
         return 1;
@@ -37,14 +38,15 @@ pub fn rounds() -> u32
     asked as u32
 }
 
-// C answers a negative number where it has no time.
-fn unsigned(t: i64) -> u64 {
-    if t > 0 { t as u64 } else { 0 }
-}
-
-// Inner: microseconds of processor time that the process has used.
-pub fn clock() -> u64 {
-    unsigned(libc::clock())
+// Inner: microseconds of processor time that the process has used, and 0 where the system tells none.
+pub fn clock(rt: &impl CpuClock) -> u64 {
+    match rt.process_cpu_time() {
+        Ok(t) => {
+            let whole = t.as_secs().wrapping_mul(1_000_000);
+            whole.wrapping_add(u64::from(t.subsec_micros()))
+        }
+        Err(_) => 0,
+    }
 }
 
 fn field(fd: i32, n: u64) {
@@ -69,8 +71,15 @@ pub fn phase(name: &[u8], units: u64, began: u64, ended: u64, sum: u64) {
 }
 
 // Inner: a phase that ends now, of so many calls: `name units sum`, and to standard error `name units calls time`.
-pub fn phase_of_calls(name: &[u8], units: u32, calls: u32, began: u64, sum: u64) {
-    let ended = clock();
+pub fn phase_of_calls(
+    rt: &impl CpuClock,
+    name: &[u8],
+    units: u32,
+    calls: u32,
+    began: u64,
+    sum: u64,
+) {
+    let ended = clock(rt);
     total(name, units as u64, sum);
     io::write_all(2, name);
     field(2, units as u64);

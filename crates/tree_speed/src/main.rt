@@ -8,62 +8,63 @@ mod ask; // requests and a reading
 
 ghost use Rattle.std.specs.Prelude.{◌≤◌};
 
+use std::time::CpuClock;
 use text_lines::report;
 
 // All n of them are one call here.
-fn inserts(n: u32, rounds: u32) {
-    let began = report::clock();
+fn inserts(rt: &impl CpuClock, n: u32, rounds: u32) {
+    let began = report::clock(rt);
     let sum = change::inserts(n, rounds);
-    report::phase_of_calls(b"inserts", n, rounds, began, sum);
+    report::phase_of_calls(rt, b"inserts", n, rounds, began, sum);
 }
 
 // `last` is the last of n nodes.
-fn changes(n: u32, last: u32, calls: u32) {
+fn changes(rt: &impl CpuClock, n: u32, last: u32, calls: u32) {
     let t = change::committed(n);
-    let one = report::clock();
+    let one = report::clock(rt);
     let a = change::setters(t, last, calls);
-    report::phase_of_calls(b"setter", n, calls, one, a);
-    let two = report::clock();
+    report::phase_of_calls(rt, b"setter", n, calls, one, a);
+    let two = report::clock(rt);
     let b = change::leaves(t, last, calls);
-    report::phase_of_calls(b"setter_commit", n, calls, two, b);
-    let three = report::clock();
+    report::phase_of_calls(rt, b"setter_commit", n, calls, two, b);
+    let three = report::clock(rt);
     let c = change::moves(t, calls);
-    report::phase_of_calls(b"root", n, calls, three, c);
-    let four = report::clock();
+    report::phase_of_calls(rt, b"root", n, calls, three, c);
+    let four = report::clock(rt);
     let d = change::wholes(t, calls);
-    report::phase_of_calls(b"root_commit", n, calls, four, d);
-    let five = report::clock();
+    report::phase_of_calls(rt, b"root_commit", n, calls, four, d);
+    let five = report::clock(rt);
     let e = change::swaps(t, last, calls);
-    report::phase_of_calls(b"remove_insert_commit", n, calls, five, e);
+    report::phase_of_calls(rt, b"remove_insert_commit", n, calls, five, e);
 }
 
-fn requests(n: u32, last: u32, calls: u32) {
+fn requests(rt: &impl CpuClock, n: u32, last: u32, calls: u32) {
     let t = change::committed(n);
-    let one = report::clock();
+    let one = report::clock(rt);
     let a = ask::alives(t, last, calls);
-    report::phase_of_calls(b"is_alive", n, calls, one, a);
-    let two = report::clock();
+    report::phase_of_calls(rt, b"is_alive", n, calls, one, a);
+    let two = report::clock(rt);
     let b = ask::taps(t, calls);
-    report::phase_of_calls(b"tap", n, calls, two, b);
-    let three = report::clock();
+    report::phase_of_calls(rt, b"tap", n, calls, two, b);
+    let three = report::clock(rt);
     let c = ask::points(t, calls);
-    report::phase_of_calls(b"point", n, calls, three, c);
-    let four = report::clock();
+    report::phase_of_calls(rt, b"point", n, calls, three, c);
+    let four = report::clock(rt);
     let d = ask::rects(t, calls);
-    report::phase_of_calls(b"rect", n, calls, four, d);
+    report::phase_of_calls(rt, b"rect", n, calls, four, d);
 }
 
-fn all(n: u32, last: u32, rounds: u32)
+fn all(rt: &impl CpuClock, n: u32, last: u32, rounds: u32)
     requires { rounds ≤ 9999 }
 {
-    inserts(n, rounds);
-    changes(n, last, rounds * 64);
-    requests(n, last, rounds * 64);
+    inserts(rt, n, rounds);
+    changes(rt, n, last, rounds * 64);
+    requests(rt, n, last, rounds * 64);
 }
 
-fn main() {
-    let rounds = report::rounds();
-    all(16, 15, rounds);
-    all(64, 63, rounds);
-    all(256, 255, rounds);
+fn main(rt: HostRuntime) {
+    let rounds = report::rounds(&mut rt.stdin());
+    all(&rt, 16, 15, rounds);
+    all(&rt, 64, 63, rounds);
+    all(&rt, 256, 255, rounds);
 }
