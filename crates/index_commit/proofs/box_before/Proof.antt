@@ -11,11 +11,11 @@ enum_told-1 c = search rules
 
 returns-in-Some : tie.Need-returns-in-Some
 unfolding box_before
-returns-in-Some c = rw c.before.p-1.given.1
+returns-in-Some c = rw c.in-Some.is
 
 returns-in-None : tie.Need-returns-in-None
 unfolding box_before
-returns-in-None c = rw c.enum_told-1.given.1
+returns-in-None c = rw c.in-None.is
 
 pub box_before_spec : {M : Type 1} → statement M
 box_before_spec = tie.close (tie.spec enum_known-p enum_told-1 returns-in-Some returns-in-None)

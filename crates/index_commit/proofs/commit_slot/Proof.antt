@@ -10,7 +10,7 @@ bounds-mark-at : tie.Need-bounds-mark-at
 bounds-mark-at c = search rules
 
 returns-then-m-lt2 : tie.Need-returns-then-m-lt2
-returns-then-m-lt2 c = let A = c.before.before.args in let m = get_or A.mark.now A.x 0 in rw (act_rests m c.if-m-lt2.true) (refl, (refl, (refl, (refl, (refl, refl)))))
+returns-then-m-lt2 c = let A = c.args in let m = get_or A.mark.now A.x 0 in rw (act_rests m c.if-m-lt2.true) (refl, (refl, (refl, (refl, (refl, refl)))))
 
 box_at-b-requires : tie.Need-box_at-b-requires
 box_at-b-requires c κs = search rules
@@ -25,7 +25,7 @@ put_box-requires : tie.Need-put_box-requires
 put_box-requires c κs = search rules
 
 returns-then-m-eq2 : tie.Need-returns-then-m-eq2
-returns-then-m-eq2 c = let A = c.before.before.before.before.before.before.args in let m = get_or A.mark.now A.x 0 in rw (act_adds m (omega arith) c.before.before.if-m-eq2.true, ← c.before.before.before.box_at-b.ensures) (refl, (refl, (refl, (refl, (c.put_box.ensures, refl)))))
+returns-then-m-eq2 c = let A = c.args in let m = get_or A.mark.now A.x 0 in rw (act_adds m (omega arith) c.if-m-eq2.true, ← c.box_at-b.ensures) (refl, (refl, (refl, (refl, (c.put_box.ensures, refl)))))
 
 previous_at-p-requires : tie.Need-previous_at-p-requires
 previous_at-p-requires c κs = search rules
@@ -49,7 +49,7 @@ moved_to-requires : tie.Need-moved_to-requires
 moved_to-requires c κs = search rules
 
 returns-then-m-eq3 : tie.Need-returns-then-m-eq3
-returns-then-m-eq3 c = let A = c.before.before.before.before.before.before.before.before.before.before.before.args in let m = get_or A.mark.now A.x 0 in rw (act_moves m (omega arith) c.before.before.before.before.before.before.before.if-m-eq2.false c.before.before.before.before.if-m-eq3.true, ← c.before.before.before.before.before.before.before.before.box_at-b.ensures, ← c.before.before.before.before.before.previous_at-p.ensures) (refl, (refl, (refl, (refl, (c.before.before.put_box-then-m-eq3.ensures, rw (c.moved_to.ensures, c.before.moved_from-from.ensures))))))
+returns-then-m-eq3 c = let A = c.args in let m = get_or A.mark.now A.x 0 in rw (act_moves m (omega arith) c.if-m-eq2.false c.if-m-eq3.true, ← c.box_at-b.ensures, ← c.previous_at-p.ensures) (refl, (refl, (refl, (refl, (c.put_box-then-m-eq3.ensures, rw (c.moved_to.ensures, c.moved_from-from.ensures))))))
 
 bounds-mark-at-2 : tie.Need-bounds-mark-at-2
 bounds-mark-at-2 c = search rules
@@ -58,19 +58,19 @@ bounds-present-at-2 : tie.Need-bounds-present-at-2
 bounds-present-at-2 c = search rules
 
 offset_bounds-free-frees : tie.Need-offset_bounds-free-frees
-offset_bounds-free-frees c = let A = c.before.before.before.before.before.before.before.args in let m = get_or A.mark.now A.x 0 in omega (arith, c.before.before.before.before.before.before.before.requires.1 (act_drops m (omega arith) c.before.before.before.if-m-eq2.false c.if-m-eq3.false))
+offset_bounds-free-frees c = let A = c.args in let m = get_or A.mark.now A.x 0 in omega (arith, c.requires.1 (act_drops m (omega arith) c.if-m-eq2.false c.if-m-eq3.false))
 
 bounds-free-frees : tie.Need-bounds-free-frees
-bounds-free-frees c = let A = c.before.before.before.before.before.before.before.args in let m = get_or A.mark.now A.x 0 in omega (arith, c.before.before.before.before.before.before.before.requires.1 (act_drops m (omega arith) c.before.before.before.if-m-eq2.false c.if-m-eq3.false))
+bounds-free-frees c = let A = c.args in let m = get_or A.mark.now A.x 0 in omega (arith, c.requires.1 (act_drops m (omega arith) c.if-m-eq2.false c.if-m-eq3.false))
 
 overflow_add-result : tie.Need-overflow_add-result
-overflow_add-result c = let A = c.before.before.before.before.before.before.before.args in let m = get_or A.mark.now A.x 0 in omega (arith, c.before.before.before.before.before.before.before.requires.1 (act_drops m (omega arith) c.before.before.before.if-m-eq2.false c.if-m-eq3.false))
+overflow_add-result c = let A = c.args in let m = get_or A.mark.now A.x 0 in omega (arith, c.requires.1 (act_drops m (omega arith) c.if-m-eq2.false c.if-m-eq3.false))
 
 box_before-requires : tie.Need-box_before-requires
 box_before-requires c κs = search rules
 
 returns : tie.Need-returns
-returns c = let A = c.before.before.before.before.before.before.before.before.args in let m = get_or A.mark.now A.x 0 in rw (act_drops m (omega arith) c.before.before.before.before.if-m-eq2.false c.before.if-m-eq3.false, ← c.before.before.before.before.before.box_at-b.ensures, ← c.before.before.previous_at-p.ensures) (refl, (refl, (refl, (refl, (refl, rw c.box_before.ensures)))))
+returns c = let A = c.args in let m = get_or A.mark.now A.x 0 in rw (act_drops m (omega arith) c.if-m-eq2.false c.if-m-eq3.false, ← c.box_at-b.ensures, ← c.previous_at-p.ensures) (refl, (refl, (refl, (refl, (refl, rw c.box_before.ensures)))))
 
 pub commit_slot_spec : {M : Type 1} → statement M
 commit_slot_spec =

@@ -16,8 +16,8 @@ decreases-loop-i mark₀ kept₀ free₀ present₀ boxes₀ aabb prev dirty que
 
 loop-i-init : tie.Need-loop-i-init invariant-loop-i decreases-loop-i
 unfolding work
-loop-i-init c = let A = c.before.before.before.before.args in
-    let P = c.before.before.before.before.requires in
+loop-i-init c = let A = c.args in
+    let P = c.requires in
     let C = counted A.mark.now A.free.now A.frees A.dirty.now A.queued P.7.0 P.0 P.1 P.2 P.7.1 in
     record {
       i_fits = omega arith;
@@ -38,56 +38,56 @@ loop-i-init c = let A = c.before.before.before.before.args in
     }
 
 offset_bounds-dirty-i : tie.Need-offset_bounds-dirty-i invariant-loop-i decreases-loop-i
-offset_bounds-dirty-i c = omega (arith, c.before.before.before.before.before.before.loop-i.invariant.q_fits, c.before.before.before.before.before.loop-i-test.true)
+offset_bounds-dirty-i c = omega (arith, c.loop-i.invariant.q_fits, c.loop-i-test.true)
 
 bounds-dirty-i : tie.Need-bounds-dirty-i invariant-loop-i decreases-loop-i
-bounds-dirty-i c = omega (arith, c.before.before.before.before.before.before.loop-i.invariant.q_fits, c.before.before.before.before.before.loop-i-test.true)
+bounds-dirty-i c = omega (arith, c.loop-i.invariant.q_fits, c.loop-i-test.true)
 
 commit_slot-c-requires : tie.Need-commit_slot-c-requires invariant-loop-i decreases-loop-i
-commit_slot-c-requires c κs = let L = c.before.before.before.before.before.before.before.loop-i in let A = c.before.before.before.before.before.before.before.before.before.before.before.before.args in let h = c.before.before.before.before.before.before.loop-i-test.true in (x_low A.aabb.now A.prev.now A.dirty.now A.queued (start A.mark.now A.kept.now A.free.now A.frees A.present.now A.boxes.now) A.added.now A.removed.now A.old.now A.new.now L.mark L.auto L.free L.present L.boxes L.added L.removed L.old L.new L.f L.a L.r L.m L.i L.invariant h, x_room A.aabb.now A.prev.now A.dirty.now A.queued (start A.mark.now A.kept.now A.free.now A.frees A.present.now A.boxes.now) A.added.now A.removed.now A.old.now A.new.now L.mark L.auto L.free L.present L.boxes L.added L.removed L.old L.new L.f L.a L.r L.m L.i L.invariant h)
+commit_slot-c-requires c κs = let L = c.loop-i in let A = c.args in let h = c.loop-i-test.true in (x_low A.aabb.now A.prev.now A.dirty.now A.queued (start A.mark.now A.kept.now A.free.now A.frees A.present.now A.boxes.now) A.added.now A.removed.now A.old.now A.new.now L.mark L.auto L.free L.present L.boxes L.added L.removed L.old L.new L.f L.a L.r L.m L.i L.invariant h, x_room A.aabb.now A.prev.now A.dirty.now A.queued (start A.mark.now A.kept.now A.free.now A.frees A.present.now A.boxes.now) A.added.now A.removed.now A.old.now A.new.now L.mark L.auto L.free L.present L.boxes L.added L.removed L.old L.new L.f L.a L.r L.m L.i L.invariant h)
 
 push-a-requires : tie.Need-push-a-requires invariant-loop-i decreases-loop-i
-push-a-requires c κs = let L = c.before.before.before.before.before.before.before.before.before.loop-i in push_fits L.invariant.added_long L.invariant.a_few c.before.before.before.before.before.before.before.before.loop-i-test.true L.invariant.q_fits
+push-a-requires c κs = let L = c.loop-i in push_fits L.invariant.added_long L.invariant.a_few c.loop-i-test.true L.invariant.q_fits
 
 push-r-requires : tie.Need-push-r-requires invariant-loop-i decreases-loop-i
-push-r-requires c κs = let L = c.before.before.before.before.before.before.before.before.before.before.before.before.before.loop-i in push_fits L.invariant.removed_long L.invariant.r_few c.before.before.before.before.before.before.before.before.before.before.before.before.loop-i-test.true L.invariant.q_fits
+push-r-requires c κs = let L = c.loop-i in push_fits L.invariant.removed_long L.invariant.r_few c.loop-i-test.true L.invariant.q_fits
 
 push-requires : tie.Need-push-requires invariant-loop-i decreases-loop-i
-push-requires c κs = let L = c.before.before.before.before.before.before.before.before.before.before.before.before.before.before.before.before.before.loop-i in push_fits L.invariant.old_long L.invariant.m_few c.before.before.before.before.before.before.before.before.before.before.before.before.before.before.before.before.loop-i-test.true L.invariant.q_fits
+push-requires c κs = let L = c.loop-i in push_fits L.invariant.old_long L.invariant.m_few c.loop-i-test.true L.invariant.q_fits
 
 push-m-requires : tie.Need-push-m-requires invariant-loop-i decreases-loop-i
-push-m-requires c κs = let L = c.before.before.before.before.before.before.before.before.before.before.before.before.before.before.before.before.before.before.before.before.before.loop-i in push_fits L.invariant.new_long L.invariant.m_few c.before.before.before.before.before.before.before.before.before.before.before.before.before.before.before.before.before.before.before.before.loop-i-test.true L.invariant.q_fits
+push-m-requires c κs = let L = c.loop-i in push_fits L.invariant.new_long L.invariant.m_few c.loop-i-test.true L.invariant.q_fits
 
 overflow_add-i : tie.Need-overflow_add-i invariant-loop-i decreases-loop-i
-overflow_add-i c = omega (arith, c.before.before.before.before.before.before.before.before.before.before.before.before.before.before.before.before.before.before.before.before.before.before.before.before.loop-i.invariant.q_fits, c.before.before.before.before.before.before.before.before.before.before.before.before.before.before.before.before.before.before.before.before.before.before.before.loop-i-test.true)
+overflow_add-i c = omega (arith, c.loop-i.invariant.q_fits, c.loop-i-test.true)
 
 loop-i-smaller : tie.Need-loop-i-smaller invariant-loop-i decreases-loop-i
-loop-i-smaller c = omega (arith, c.before.before.before.before.before.before.before.before.before.before.before.before.before.before.before.before.before.before.before.before.before.before.before.loop-i-test.true)
+loop-i-smaller c = omega (arith, c.loop-i-test.true)
 
 loop-i-preserved : tie.Need-loop-i-preserved invariant-loop-i decreases-loop-i
-loop-i-preserved c = let L = c.before.before.before.before.before.before.before.before.before.before.before.before.before.before.before.before.before.before.before.before.before.before.before.before.loop-i in
-    let A = c.before.before.before.before.before.before.before.before.before.before.before.before.before.before.before.before.before.before.before.before.before.before.before.before.before.before.before.before.before.args in
-    let S = c.before.before.before.before.before.before.before.before.before.before.before.before.before.before.before.before.commit_slot-c.ensures in
-    let P = c.before.before.before.before.before.before.before.before.before.before.before.before.before.before.push-a.ensures in
-    let R = c.before.before.before.before.before.before.before.before.before.before.push-r.ensures in
-    let O = c.before.before.before.before.before.before.push.ensures in
-    let N = c.before.before.push-m.ensures in
-    next A.aabb.now A.prev.now A.dirty.now A.queued (start A.mark.now A.kept.now A.free.now A.frees A.present.now A.boxes.now) A.added.now A.removed.now A.old.now A.new.now L.mark L.auto L.free L.present L.boxes L.added L.removed L.old L.new L.f L.a L.r L.m L.i L.invariant c.before.before.before.before.before.before.before.before.before.before.before.before.before.before.before.before.before.before.before.before.before.before.before.loop-i-test.true c.before.before.before.before.before.before.before.before.before.before.before.before.before.before.before.before.commit_slot-c.result _ _ _ _ _ _ _ _ _ _ _ _ S.1.1.1.1.1 S.0 S.1.0 S.1.1.0 S.1.1.1.0 S.1.1.1.1.0 P.0 P.1 R.0 R.1 O.0 N.0 N.1
+loop-i-preserved c = let L = c.loop-i in
+    let A = c.args in
+    let S = c.commit_slot-c.ensures in
+    let P = c.push-a.ensures in
+    let R = c.push-r.ensures in
+    let O = c.push.ensures in
+    let N = c.push-m.ensures in
+    next A.aabb.now A.prev.now A.dirty.now A.queued (start A.mark.now A.kept.now A.free.now A.frees A.present.now A.boxes.now) A.added.now A.removed.now A.old.now A.new.now L.mark L.auto L.free L.present L.boxes L.added L.removed L.old L.new L.f L.a L.r L.m L.i L.invariant c.loop-i-test.true c.commit_slot-c.result _ _ _ _ _ _ _ _ _ _ _ _ S.1.1.1.1.1 S.0 S.1.0 S.1.1.0 S.1.1.1.0 S.1.1.1.1.0 P.0 P.1 R.0 R.1 O.0 N.0 N.1
 
 shape_of-added : tie.Need-shape_of-added invariant-loop-i decreases-loop-i
-shape_of-added c = c.before.loop-i.invariant.added_long.same
+shape_of-added c = c.loop-i.invariant.added_long.same
 
 shape_of-removed : tie.Need-shape_of-removed invariant-loop-i decreases-loop-i
-shape_of-removed c = c.before.loop-i.invariant.removed_long.same
+shape_of-removed c = c.loop-i.invariant.removed_long.same
 
 shape_of-old : tie.Need-shape_of-old invariant-loop-i decreases-loop-i
-shape_of-old c = c.before.loop-i.invariant.old_long.same
+shape_of-old c = c.loop-i.invariant.old_long.same
 
 shape_of-new : tie.Need-shape_of-new invariant-loop-i decreases-loop-i
-shape_of-new c = c.before.loop-i.invariant.new_long.same
+shape_of-new c = c.loop-i.invariant.new_long.same
 
 returns : tie.Need-returns invariant-loop-i decreases-loop-i
-returns c = let L = c.before.loop-i in let A = c.before.before.before.before.before.before.args in let e : L.i ≡ A.queued = omega (arith, L.invariant.i_fits) in rw (← e) (L.invariant.state, L.invariant.rooms)
+returns c = let L = c.loop-i in let A = c.args in let e : L.i ≡ A.queued = omega (arith, L.invariant.i_fits) in rw (← e) (L.invariant.state, L.invariant.rooms)
 
 pub commit_slots_spec : {M : Type 1} → statement M
 commit_slots_spec =

@@ -11,18 +11,18 @@ eq-requires c κs = search rules
 
 returns-then-eq : tie.Need-returns-then-eq
 unfolding moved_from
-returns-then-eq c = rw (c.before.before.before.p-1.given.1, ← c.before.eq.ensures, c.if-eq.true)
+returns-then-eq c = rw (c.in-Some.is, ← c.eq.ensures, c.if-eq.true)
 
 enum_told-1 : tie.Need-enum_told-1
 enum_told-1 c = search rules
 
 returns-else-eq : tie.Need-returns-else-eq
 unfolding moved_from
-returns-else-eq c = rw (c.before.before.before.p-1.given.1, ← c.before.eq.ensures, c.if-eq.false)
+returns-else-eq c = rw (c.in-Some.is, ← c.eq.ensures, c.if-eq.false)
 
 returns-in-None : tie.Need-returns-in-None
 unfolding moved_from
-returns-in-None c = rw c.enum_told-1.given.1
+returns-in-None c = rw c.in-None.is
 
 pub moved_from_spec : {M : Type 1} → statement M
 moved_from_spec =

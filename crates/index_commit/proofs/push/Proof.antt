@@ -19,10 +19,10 @@ shape_of-room : tie.Need-shape_of-room
 shape_of-room c = search rules
 
 returns-in-Some : tie.Need-returns-in-Some
-returns-in-Some c = rw c.before.before.before.before.before.p-1.given.1 (c.before.before.put_box_in.ensures, refl)
+returns-in-Some c = rw c.in-Some.is (c.put_box_in.ensures, refl)
 
 returns-in-None : tie.Need-returns-in-None
-returns-in-None c = rw c.enum_told-1.given.1 (refl, refl)
+returns-in-None c = rw c.in-None.is (refl, refl)
 
 pub push_spec : {M : Type 1} → statement M
 push_spec =

@@ -17,7 +17,7 @@ decreases-loop-i old new n u₀ i₀ u i = n - i
 
 loop-i-init : tie.Need-loop-i-init invariant-loop-i decreases-loop-i
 unfolding join_all moves_in
-loop-i-init c = (omega arith, c.before.before.requires.0, c.before.before.requires.1, refl)
+loop-i-init c = (omega arith, c.requires.0, c.requires.1, refl)
 
 box_in-requires : tie.Need-box_in-requires invariant-loop-i decreases-loop-i
 box_in-requires c κs = search rules
@@ -38,10 +38,10 @@ loop-i-smaller : tie.Need-loop-i-smaller invariant-loop-i decreases-loop-i
 loop-i-smaller c = search rules
 
 loop-i-preserved : tie.Need-loop-i-preserved invariant-loop-i decreases-loop-i
-loop-i-preserved c = let L = c.before.before.before.before.before.loop-i in let A = c.before.before.before.before.before.before.before.before.args in (omega arith, L.invariant.1, L.invariant.2, rw (c.with_box-u.ensures, c.before.box_in-in-loop-i.ensures, c.before.before.with_box.ensures, c.before.before.before.box_in.ensures, L.invariant.3) (sym (moves_next A.start A.old.now A.new.now L.i)))
+loop-i-preserved c = let L = c.loop-i in let A = c.args in (omega arith, L.invariant.1, L.invariant.2, rw (c.with_box-u.ensures, c.box_in-in-loop-i.ensures, c.with_box.ensures, c.box_in.ensures, L.invariant.3) (sym (moves_next A.start A.old.now A.new.now L.i)))
 
 returns : tie.Need-returns invariant-loop-i decreases-loop-i
-returns c = let L = c.before.loop-i in let e : L.i ≡ c.before.before.before.before.args.n = omega arith in rw (← e) L.invariant.3
+returns c = let L = c.loop-i in let e : L.i ≡ c.args.n = omega arith in rw (← e) L.invariant.3
 
 pub join_moves_spec : {M : Type 1} → statement M
 join_moves_spec =

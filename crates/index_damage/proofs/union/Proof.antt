@@ -4,22 +4,22 @@ use Rattle.index_damage.proofs.union.Statement.{statement}
 use Rattle.index_damage.proofs.union.Tie as tie
 
 returns-then-added-a : tie.Need-returns-then-added-a
-returns-then-added-a c = let A = c.before.before.before.before.before.args in short_told A.added.now A.a A.removed.now A.r A.old.now A.new.now A.m c.if-added-a.true
+returns-then-added-a c = let A = c.args in short_told A.added.now A.a A.removed.now A.r A.old.now A.new.now A.m c.if-added-a.true
 
 join_all-u-requires : tie.Need-join_all-u-requires
-join_all-u-requires c κs = let A = c.before.before.before.before.before.args in let l = long (length A.added.now) A.a (length A.removed.now) A.r (length A.old.now) (length A.new.now) A.m c.if-added-a.false in l.0
+join_all-u-requires c κs = let A = c.args in let l = long (length A.added.now) A.a (length A.removed.now) A.r (length A.old.now) (length A.new.now) A.m c.if-added-a.false in l.0
 
 join_all-v-requires : tie.Need-join_all-v-requires
-join_all-v-requires c κs = let A = c.before.before.before.before.before.before.args in let l = long (length A.added.now) A.a (length A.removed.now) A.r (length A.old.now) (length A.new.now) A.m c.before.if-added-a.false in l.1
+join_all-v-requires c κs = let A = c.args in let l = long (length A.added.now) A.a (length A.removed.now) A.r (length A.old.now) (length A.new.now) A.m c.if-added-a.false in l.1
 
 join_moves-requires : tie.Need-join_moves-requires
-join_moves-requires c κs = let A = c.before.before.before.before.before.before.before.args in let l = long (length A.added.now) A.a (length A.removed.now) A.r (length A.old.now) (length A.new.now) A.m c.before.before.if-added-a.false in (l.2, l.3)
+join_moves-requires c κs = let A = c.args in let l = long (length A.added.now) A.a (length A.removed.now) A.r (length A.old.now) (length A.new.now) A.m c.if-added-a.false in (l.2, l.3)
 
 returns : tie.Need-returns
 returns c =
-    let A = c.before.before.before.before.before.before.before.before.args in
-    rw (c.join_moves.ensures, c.before.join_all-v.ensures, c.before.before.join_all-u.ensures)
-    (union_told A.added.now A.a A.removed.now A.r A.old.now A.new.now A.m c.before.before.before.if-added-a.false)
+    let A = c.args in
+    rw (c.join_moves.ensures, c.join_all-v.ensures, c.join_all-u.ensures)
+    (union_told A.added.now A.a A.removed.now A.r A.old.now A.new.now A.m c.if-added-a.false)
 
 pub union_spec : {M : Type 1} → statement M
 union_spec =

@@ -39,16 +39,16 @@ bounds-mark-at-in-Removed : tie.Need-bounds-mark-at-in-Removed
 bounds-mark-at-in-Removed c = search rules
 
 returns-in-Added : tie.Need-returns-in-Added
-returns-in-Added c = rw c.enum_told-1.given.1 (refl, (c.before.before.put_box.ensures, (refl, (refl, (refl, refl)))))
+returns-in-Added c = rw c.in-Added.is (refl, (c.put_box.ensures, (refl, (refl, (refl, refl)))))
 
 returns-in-Unmarked : tie.Need-returns-in-Unmarked
-returns-in-Unmarked c = let q = c.queue_dirty_slot.ensures in rw c.before.before.before.before.before.enum_told-in-Unmarked-1.given.1 (refl, (c.before.before.before.before.before.before.before.put_box.ensures, (refl, (c.before.before.put_box-in-Unmarked.ensures, (q.0, q.1)))))
+returns-in-Unmarked c = let q = c.queue_dirty_slot.ensures in rw c.in-Unmarked.is (refl, (c.put_box.ensures, (refl, (c.put_box-in-Unmarked.ensures, (q.0, q.1)))))
 
 returns-in-Updated : tie.Need-returns-in-Updated
-returns-in-Updated c = rw c.enum_told-in-Updated-1.given.1 (refl, (c.before.before.put_box.ensures, (refl, (refl, (refl, refl)))))
+returns-in-Updated c = rw c.in-Updated.is (refl, (c.put_box.ensures, (refl, (refl, (refl, refl)))))
 
 returns-in-Removed : tie.Need-returns-in-Removed
-returns-in-Removed c = rw c.enum_told-in-Removed-1.given.1 (refl, (c.before.before.put_box.ensures, (refl, (refl, (refl, refl)))))
+returns-in-Removed c = rw c.in-Removed.is (refl, (c.put_box.ensures, (refl, (refl, (refl, refl)))))
 
 pub update_entry_spec : {M : Type 1} → statement M
 update_entry_spec =

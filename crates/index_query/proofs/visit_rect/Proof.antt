@@ -16,7 +16,7 @@ abbrev decreases-loop-x : tie.decreases-loop-x
 decreases-loop-x present boxes mark generation payload rect room₀ n₀ x₀ room n x = 512 - x
 
 loop-x-init : tie.Need-loop-x-init invariant-loop-x decreases-loop-x
-loop-x-init c = let A = c.before.args in (omega arith, c.before.requires, refl, listed_none A.generation.now A.payload.now (visits A.present.now A.boxes.now A.mark.now A.rect) A.room.now)
+loop-x-init c = let A = c.args in (omega arith, c.requires, refl, listed_none A.generation.now A.payload.now (visits A.present.now A.boxes.now A.mark.now A.rect) A.room.now)
 
 visited-take-requires : tie.Need-visited-take-requires invariant-loop-x decreases-loop-x
 visited-take-requires c κs = search rules
@@ -34,26 +34,26 @@ bounds-generation-x : tie.Need-bounds-generation-x invariant-loop-x decreases-lo
 bounds-generation-x c = search rules
 
 push_entry-requires : tie.Need-push_entry-requires invariant-loop-x decreases-loop-x
-push_entry-requires c κs = let L = c.before.before.before.before.before.loop-x in let l = c.before.before.before.before.loop-x-test.true in (omega (arith, L.invariant.3.few), omega (arith, L.invariant.3.few))
+push_entry-requires c κs = let L = c.loop-x in let l = c.loop-x-test.true in (omega (arith, L.invariant.3.few), omega (arith, L.invariant.3.few))
 
 count_with-n-requires : tie.Need-count_with-n-requires invariant-loop-x decreases-loop-x
-count_with-n-requires c κs = let L = c.before.before.before.before.before.before.before.before.loop-x in let l = c.before.before.before.before.before.before.before.loop-x-test.true in omega (arith, L.invariant.3.few)
+count_with-n-requires c κs = let L = c.loop-x in let l = c.loop-x-test.true in omega (arith, L.invariant.3.few)
 
 overflow_add-x : tie.Need-overflow_add-x invariant-loop-x decreases-loop-x
-overflow_add-x c = omega (arith, c.before.before.before.before.before.before.before.before.loop-x-test.true)
+overflow_add-x c = omega (arith, c.loop-x-test.true)
 
 loop-x-smaller : tie.Need-loop-x-smaller invariant-loop-x decreases-loop-x
-loop-x-smaller c = omega (arith, c.before.before.before.before.before.before.before.before.loop-x-test.true)
+loop-x-smaller c = omega (arith, c.loop-x-test.true)
 
 loop-x-preserved : tie.Need-loop-x-preserved invariant-loop-x decreases-loop-x
-loop-x-preserved c = let L = c.before.before.before.before.before.before.before.before.before.loop-x in
-    let A = c.before.before.before.before.before.before.before.before.before.before.before.args in
-    let h = c.before.before.before.before.before.before.before.before.loop-x-test.true in
-    let T = c.before.before.before.before.before.before.before.visited-take in
-    let E = c.before.before.before.push_entry.ensures in
+loop-x-preserved c = let L = c.loop-x in
+    let A = c.args in
+    let h = c.loop-x-test.true in
+    let T = c.visited-take in
+    let E = c.push_entry.ensures in
     let N = c.count_with-n.ensures in
     let W = words L.x (get_or A.generation.now L.x 0) (id_at A.payload.now L.x) in
-    let r = rw c.before.before.before.before.before.before.id_at-p.ensures at E in (
+    let r = rw c.id_at-p.ensures at E in (
       omega arith,
       L.invariant.1,
       ap length r ∙ store_length T.result L.room L.n W ∙ L.invariant.2,
@@ -61,10 +61,10 @@ loop-x-preserved c = let L = c.before.before.before.before.before.before.before.
     )
 
 shape_of-room : tie.Need-shape_of-room invariant-loop-x decreases-loop-x
-shape_of-room c = c.before.loop-x.invariant.2
+shape_of-room c = c.loop-x.invariant.2
 
 returns : tie.Need-returns invariant-loop-x decreases-loop-x
-returns c = let L = c.before.loop-x in let e : L.x ≡ 512 = omega arith in rw (← e) (L.invariant.3.lies, L.invariant.3.many)
+returns c = let L = c.loop-x in let e : L.x ≡ 512 = omega arith in rw (← e) (L.invariant.3.lies, L.invariant.3.many)
 
 pub visit_rect_spec : {M : Type 1} → statement M
 visit_rect_spec =

@@ -15,7 +15,7 @@ overlaps-requires : tie.Need-overlaps-requires
 overlaps-requires c κs = search rules
 
 returns : tie.Need-returns
-returns c = rw (c.overlaps.ensures, c.before.before.before.box_at-b.ensures)
+returns c = rw (c.overlaps.ensures, c.box_at-b.ensures)
 
 pub visited_spec : {M : Type 1} → statement M
 visited_spec =

@@ -25,7 +25,7 @@ bounds-list-i c = search rules
 
 returns-then-e-ge512 : tie.Need-returns-then-e-ge512 invariant-loop-i decreases-loop-i
 returns-then-e-ge512 c =
-    let L = c.before.before.before.loop-i in
+    let L = c.loop-i in
     let s = c.before.before.before.before.before in
     outside 512 s.args.list.now s.args.n s.requires L.times L.i L.invariant (omega arith) (omega arith)
 
@@ -37,7 +37,7 @@ bounds-times-x c = search rules
 
 returns-then-times-x-ne0 : tie.Need-returns-then-times-x-ne0 invariant-loop-i decreases-loop-i
 returns-then-times-x-ne0 c =
-    let L = c.before.before.before.before.loop-i in
+    let L = c.loop-i in
     let s = c.before.before.before.before.before.before in
     twice 512 s.args.list.now s.args.n s.requires L.times L.i L.invariant (omega arith) c.if-times-x-ne0.true
 
@@ -52,13 +52,13 @@ loop-i-smaller c = search rules
 
 loop-i-preserved : tie.Need-loop-i-preserved invariant-loop-i decreases-loop-i
 loop-i-preserved c =
-    let L = c.before.before.before.before.loop-i in
+    let L = c.loop-i in
     let s = c.before.before.before.before.before.before in
     next 512 s.args.list.now s.args.n s.requires L.times L.i L.invariant (omega arith) (omega arith) c.if-times-x-ne0.false
 
 returns : tie.Need-returns invariant-loop-i decreases-loop-i
 returns c =
-    let L = c.before.loop-i in
+    let L = c.loop-i in
     let s = c.before.before.before in
     ends 512 s.args.list.now s.args.n s.requires L.times L.i L.invariant (omega arith)
 

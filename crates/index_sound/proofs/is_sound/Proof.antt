@@ -21,9 +21,9 @@ slots_right-s-requires c κs = search rules
 
 returns : tie.Need-returns
 unfolding sound_of
-returns c = let F = c.before.before.before.before.before.before.count-f in
-    let Q = c.before.before.before.before.before.count-q in
-    let A = c.before.before.before.before.before.before.before.args in
+returns c = let F = c.count-f in
+    let Q = c.count-q in
+    let A = c.args in
     rw (c.slots_right-s.ensures, ← F.ensures.0, ← Q.ensures.0)
     (ap (λ (b : Bool). leb A.used 512 && b)
     (behind F.result.ok Q.result.ok 512

@@ -18,7 +18,7 @@ insert_at-requires c κs = search rules
 
 overflow_add-d : tie.Need-overflow_add-d
 overflow_add-d c =
-    let Z = c.before.before.before.before.before.before.before in
+    let Z = c in
     omega (arith, depth_fits Z.args.t1.count Z.args.t1.depth Z.requires.2 Z.args.at Z.requires.0, Z.requires)
 
 insert_at-requires-2 : tie.Need-insert_at-requires-2
@@ -29,9 +29,9 @@ overflow_add-l c = search rules
 
 returns : tie.Need-returns
 returns c =
-    let A = c.before.before.before.before.before.before.before.before.args in
-    let E = c.before.before.before.before.segment_end-e in
-    last_added A.t1 c.before.before.insert_at.new.0 c.insert_at-2.new.0 A.at A.x E.result E.ensures.2 c.before.before.insert_at.ensures.1
+    let A = c.args in
+    let E = c.segment_end-e in
+    last_added A.t1 c.insert_at.new.0 c.insert_at-2.new.0 A.at A.x E.result E.ensures.2 c.insert_at.ensures.1
     c.insert_at-2.ensures.1
 
 pub add_last_spec : {M : Type 1} → statement M

@@ -37,7 +37,7 @@ loop-i-smaller c = search rules
 
 loop-i-preserved : tie.Need-loop-i-preserved invariant-loop-i decreases-loop-i
 loop-i-preserved c =
-    let L = c.before.before.loop-i in
+    let L = c.loop-i in
     (omega arith, omega arith, omega arith, search rules, carry_on L.a L.i L.carry (omega arith) ∙ L.invariant.4)
 
 offset_bounds-a-n : tie.Need-offset_bounds-a-n invariant-loop-i decreases-loop-i
@@ -48,8 +48,8 @@ bounds-a-n c = search rules
 
 returns : tie.Need-returns invariant-loop-i decreases-loop-i
 returns c =
-    let L = c.before.loop-i in
-    let A = c.before.before.args in
+    let L = c.loop-i in
+    let A = c.args in
     let len : length A.a.now ≡ 256 = search rules in
     let e : L.i ≡ A.n = omega arith in
     (search rules, carry_end L.a A.a.now A.n A.e L.carry A.x (omega arith) (omega arith) (omega arith) (rw e at L.invariant.4))

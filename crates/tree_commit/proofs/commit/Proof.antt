@@ -7,8 +7,8 @@ use Rattle.tree_commit.proofs.commit.Statement.{statement}
 use Rattle.tree_commit.proofs.commit.Tie as tie
 
 -- the test is the definition's
-verdict : (c : tie.After-check-v) → let A = c.before.before.before.args in c.check-v.result ≡ commit_verdict A.t (length A.room.now)
-verdict c = rw (c.check-v.ensures, c.before.held-held.ensures)
+verdict : (c : tie.After-check-v) → let A = c.args in c.check-v.result ≡ commit_verdict A.t (length A.room.now)
+verdict c = rw (c.check-v.ensures, c.held-held.ensures)
 
 held-held-requires : tie.Need-held-held-requires
 held-held-requires c κs = search rules
@@ -22,9 +22,9 @@ enum_told-1 c = search rules
 commit_sound-done-requires : tie.Need-commit_sound-done-requires
 commit_sound-done-requires c κs =
     let T = c.before in
-    let C = T.before.before in
-    let A = C.before.before.before.args in
-    accepted A.t (length A.room.now) (sym (verdict C) ∙ T.enum_told-1.given.1)
+    let C = T.before in
+    let A = C.args in
+    accepted A.t (length A.room.now) (sym (verdict C) ∙ T.in-Accepted.is)
 
 enum_known-v : tie.Need-enum_known-v
 enum_known-v c = search rules
@@ -36,15 +36,15 @@ returns-in-Accepted : tie.Need-returns-in-Accepted
 returns-in-Accepted c =
     let D = c.before.before.before in
     let T = D.before.before in
-    let C = T.before.before in
-    let A = C.before.before.before.args in
-    call_done A.t A.room.now _ D.commit_sound-done.result (sym (verdict C) ∙ T.enum_told-1.given.1) D.commit_sound-done.ensures.0 D.commit_sound-done.ensures.1
+    let C = T.before in
+    let A = C.args in
+    call_done A.t A.room.now _ D.commit_sound-done.result (sym (verdict C) ∙ T.in-Accepted.is) D.commit_sound-done.ensures.0 D.commit_sound-done.ensures.1
 
 returns-in-Refused : tie.Need-returns-in-Refused
 returns-in-Refused c =
-    let C = c.before.before.before in
-    let A = C.before.before.before.args in
-    call_refused A.t A.room.now _ (sym (verdict C) ∙ c.before.v-1.given.1)
+    let C = c.before in
+    let A = C.args in
+    call_refused A.t A.room.now _ (sym (verdict C) ∙ c.in-Refused.is)
 
 pub commit_spec : {M : Type 1} → statement M
 commit_spec =

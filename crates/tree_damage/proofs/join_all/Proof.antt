@@ -17,7 +17,7 @@ decreases-loop-i room n u₀ i₀ u i = n - i
 
 loop-i-init : tie.Need-loop-i-init invariant-loop-i decreases-loop-i
 unfolding join_all rects_of
-loop-i-init c = (omega arith, c.before.requires, refl)
+loop-i-init c = (omega arith, c.requires, refl)
 
 rect_in-requires : tie.Need-rect_in-requires invariant-loop-i decreases-loop-i
 rect_in-requires c κs = search rules
@@ -33,12 +33,12 @@ loop-i-smaller c = search rules
 
 loop-i-preserved : tie.Need-loop-i-preserved invariant-loop-i decreases-loop-i
 loop-i-preserved c =
-    let L = c.before.before.before.loop-i in
-    let A = c.before.before.before.before.before.args in
-    (omega arith, L.invariant.1, rw (c.with_rect-u.ensures, c.before.rect_in.ensures, L.invariant.2) (sym (rects_next A.room.now L.i)))
+    let L = c.loop-i in
+    let A = c.args in
+    (omega arith, L.invariant.1, rw (c.with_rect-u.ensures, c.rect_in.ensures, L.invariant.2) (sym (rects_next A.room.now L.i)))
 
 returns : tie.Need-returns invariant-loop-i decreases-loop-i
-returns c = let L = c.before.loop-i in let e : L.i ≡ c.before.before.before.args.n = omega arith in rw (← e) L.invariant.2
+returns c = let L = c.loop-i in let e : L.i ≡ c.args.n = omega arith in rw (← e) L.invariant.2
 
 pub join_all_spec : {M : Type 1} → statement M
 join_all_spec =

@@ -14,11 +14,11 @@ enum_told-1 : tie.Need-enum_told-1
 enum_told-1 c = search rules
 
 -- what an accepted call has
-room : (c : tie.In-Accepted) → let A = c.before.before.before.args in Room A.t A.parent
+room : (c : tie.In-Accepted) → let A = c.args in Room A.t A.parent
 room c =
-    let k = c.before.before in
+    let k = c.before in
     let s = k.before in
-    room_of s.args.t s.args.parent s.args.local s.well_formed.0 (sym k.test-v.ensures ∙ c.enum_told-1.given.1)
+    room_of s.args.t s.args.parent s.args.local s.well_formed.0 (sym k.test-v.ensures ∙ c.in-Accepted.is)
 
 -- the way back to the verdict
 abbrev from_id : tie.After-next_id-id → tie.In-Accepted
@@ -79,9 +79,9 @@ returns-in-Accepted c =
 
 returns-in-Refused : tie.Need-returns-in-Refused
 returns-in-Refused c =
-    let k = c.before.before.before in
-    let A = k.before.args in
-    refused A.t A.parent A.local k.test-v.result k.test-v.ensures c.before.v-1.given.0.0 c.before.v-1.given.1
+    let k = c.before in
+    let A = k.args in
+    refused A.t A.parent A.local k.test-v.result k.test-v.ensures c.in-Refused.r c.in-Refused.is
 
 pub insert_spec : {M : Type 1} → statement M
 insert_spec =

@@ -18,15 +18,15 @@ position-at-requires c κs = search rules
 
 add_last-requires : tie.Need-add_last-requires
 add_last-requires c κs =
-    let Z = c.before.before.before.before.before.before.before in
-    let h = c.before.before.before.before.parent-1.given in
+    let Z = c in
+    let h = c.parent-1.given in
     (omega (arith, c.position-at.ensures.1, placed_some Z.args.t Z.args.parent h.0.0 h.1 Z.requires.2), Z.requires.0, Z.requires.1)
 
 returns-in-None : tie.Need-returns-in-None
-returns-in-None c = rw (c.add_root.ensures, c.before.enum_told-1.given.1)
+returns-in-None c = rw (c.add_root.ensures, c.in-None.is)
 
 returns-in-Some : tie.Need-returns-in-Some
-returns-in-Some c = rw (c.add_last.ensures, c.before.position-at.ensures.1, c.before.before.before.before.before.parent-1.given.1)
+returns-in-Some c = rw (c.add_last.ensures, c.position-at.ensures.1, c.in-Some.is)
 
 pub link_parent_spec : {M : Type 1} → statement M
 link_parent_spec =

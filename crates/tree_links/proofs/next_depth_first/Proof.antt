@@ -17,18 +17,18 @@ enum_told-1 c = search rules
 
 next_in_order-requires : tie.Need-next_in_order-requires
 next_in_order-requires c κs =
-    let n = c.before.before in
+    let n = c.before in
     let s = n.before in
-    let N = node_accepted s.args.t (sized s.args.t s.well_formed.0) s.args.id (sym n.of_node.ensures ∙ c.enum_told-1.given.1) in
+    let N = node_accepted s.args.t (sized s.args.t s.well_formed.0) s.args.id (sym n.of_node.ensures ∙ c.in-Accepted.is) in
     (N.whole.test, N.is_live_lem)
 
 returns-in-Refused : tie.Need-returns-in-Refused
 unfolding node_if
-returns-in-Refused c = let n = c.before.before.before in rw (← n.of_node.ensures, c.before.r-1.given.1)
+returns-in-Refused c = let n = c.before in rw (← n.of_node.ensures, c.in-Refused.is)
 
 returns-in-Accepted : tie.Need-returns-in-Accepted
 unfolding node_if
-returns-in-Accepted c = let e = c.before in rw (← e.before.before.of_node.ensures, e.enum_told-1.given.1, c.next_in_order.ensures)
+returns-in-Accepted c = let e = c.before in rw (← e.of_node.ensures, e.in-Accepted.is, c.next_in_order.ensures)
 
 pub next_depth_first_spec : {M : Type 1} → statement M
 next_depth_first_spec =

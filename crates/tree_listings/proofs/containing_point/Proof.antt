@@ -11,8 +11,8 @@ shape_of-room c = search rules
 
 returns : tie.Need-returns
 returns c =
-    let A = c.before.before.before.before.before.args in
-    let E = c.before.before.intersect_rect.ensures in
+    let A = c.args in
+    let E = c.intersect_rect.ensures in
     rw (point_listed A.t A.filter.required_flags A.point) (E.0, E.1)
 
 pub containing_point_spec : {M : Type 1} → statement M

@@ -15,11 +15,11 @@ use Rattle.tree_listings.proofs.intersect_rect.Tie as tie
 
 -- before the tables are lent
 abbrev start : tie.After-asked_verdict-fresh → tie.Start
-start c = c.before.before.before.before.before.before.before.before.before.before.before.before.before.before.before.before.before.before.before.before.before.before.before.before.before.before.before
+start c = c
 
 asked_verdict-fresh-requires : tie.Need-asked_verdict-fresh-requires
 asked_verdict-fresh-requires c κs =
-    let s = c.before.before.before.before.before.before.before.before.before.before.before.before.before.before.before.before.before.before.before.before.before.before.before.before.before.before in
+    let s = c in
     let l = sized s.args.t1 s.well_formed.0 in
     (l.order, l.depth, l.free, l.mark, l.entries_free, l.dirty)
 
@@ -30,27 +30,27 @@ room_verdict-v-requires c κs = search rules
 told : (c : tie.After-room_verdict-v) → let A = (start c.before).args in c.room_verdict-v.result ≡ request_verdict A.t1 A.filter.required_flags (length A.room.now)
 told c =
     let A = (start c.before).args in
-    c.room_verdict-v.ensures ∙ ap (λ (v : Verdict). room_verdict v (length A.room.now)) (c.before.asked_verdict-fresh.ensures A.t1)
+    c.room_verdict-v.ensures ∙ ap (λ (v : Verdict). room_verdict v (length A.room.now)) (c.asked_verdict-fresh.ensures A.t1)
 
 enum_known-v : tie.Need-enum_known-v
 enum_known-v c = search rules
 
 returns-in-Refused : tie.Need-returns-in-Refused
 returns-in-Refused c =
-    let w = c.before.before.before in
+    let w = c.before in
     let A = (start w.before).args in
     let asked = A.filter.required_flags in
-    refused (request_verdict A.t1 asked (length A.room.now)) (rect_nodes A.t1 asked A.rect) A.room.now _ (sym (told w) ∙ c.before.v-1.given.1)
+    refused (request_verdict A.t1 asked (length A.room.now)) (rect_nodes A.t1 asked A.rect) A.room.now _ (sym (told w) ∙ c.in-Refused.is)
 
 enum_told-1 : tie.Need-enum_told-1
 enum_told-1 c = search rules
 
-yes : (c : tie.In_default) → let A = (start c.before.before.before).args in request_verdict A.t1 A.filter.required_flags (length A.room.now) ≡ is.Accepted
-yes c = sym (told c.before.before) ∙ c.enum_told-1.given.1
+yes : (c : tie.In_default) → let A = (start c.before.before).args in request_verdict A.t1 A.filter.required_flags (length A.room.now) ≡ is.Accepted
+yes c = sym (told c.before) ∙ c.in_default.is
 
 list-n-requires : tie.Need-list-n-requires
 list-n-requires c κs =
-    let e = c.before.before.before.before.before.before.before.before.before in
+    let e = c in
     let s = start e.before.before.before in
     let A = s.args in
     let z = sized A.t1 s.good.0 in
@@ -63,10 +63,10 @@ shape_of-room c = search rules
 
 returns : tie.Need-returns
 returns c =
-    let e = c.before.before.before.before.before.before.before.before.before.before.before.before in
+    let e = c in
     let A = (start e.before.before.before).args in
     let asked = A.filter.required_flags in
-    let E = c.before.before.list-n.ensures A.t1 in
+    let E = c.list-n.ensures A.t1 in
     answered (request_verdict A.t1 asked (length A.room.now)) (rect_nodes A.t1 asked A.rect) A.room.now _ _ (yes e) E.0 E.1
 
 pub intersect_rect_spec : {M : Type 1} → statement M

@@ -21,19 +21,19 @@ overflow_cast-id c = search rules
 
 byte_at-requires : tie.Need-byte_at-requires
 byte_at-requires c κs =
-    let e = c.before.before.before in
+    let e = c in
     let n = e.before.before in
-    let s = n.before in
-    let told = sym n.of_node.ensures ∙ e.enum_told-1.given.1 in
+    let s = n in
+    let told = sym n.of_node.ensures ∙ e.in-Accepted.is in
     (node_accepted s.args.t1 (sized s.args.t1 s.well_formed.0) s.args.id told).slot_low
 
 returns-in-Refused : tie.Need-returns-in-Refused
 unfolding flags_if
-returns-in-Refused c = let n = c.before.before.before in rw (← n.of_node.ensures, c.before.r-1.given.1)
+returns-in-Refused c = let n = c.before in rw (← n.of_node.ensures, c.in-Refused.is)
 
 returns-in-Accepted : tie.Need-returns-in-Accepted
 unfolding flags_if local_at
-returns-in-Accepted c = let e = c.before.before.before.before in rw (← e.before.before.of_node.ensures, e.enum_told-1.given.1, c.byte_at.ensures)
+returns-in-Accepted c = let e = c in rw (← e.of_node.ensures, e.in-Accepted.is, c.byte_at.ensures)
 
 pub flags_spec : {M : Type 1} → statement M
 flags_spec =

@@ -18,19 +18,19 @@ enum_told-1 c = search rules
 
 is_live-requires : tie.Need-is_live-requires
 is_live-requires c κs =
-    let e = c.before.before.before in
+    let e = c in
     let n = e.before.before in
-    let s = n.before in
+    let s = n in
     let z = sized s.args.t1 s.well_formed.0 in
-    live_needs s.args.t1 z (held_accepted s.args.t1 z (sym n.held.ensures ∙ e.enum_told-1.given.1))
+    live_needs s.args.t1 z (held_accepted s.args.t1 z (sym n.held.ensures ∙ e.in-Accepted.is))
 
 returns-in-Refused : tie.Need-returns-in-Refused
 unfolding bool_if
-returns-in-Refused c = let n = c.before.before.before in rw (← n.held.ensures, c.before.r-1.given.1)
+returns-in-Refused c = let n = c.before in rw (← n.held.ensures, c.in-Refused.is)
 
 returns-in-Accepted : tie.Need-returns-in-Accepted
 unfolding bool_if live
-returns-in-Accepted c = let e = c.before.before.before.before in rw (← e.before.before.held.ensures, e.enum_told-1.given.1, c.is_live.ensures)
+returns-in-Accepted c = let e = c in rw (← e.held.ensures, e.in-Accepted.is, c.is_live.ensures)
 
 pub is_alive_spec : {M : Type 1} → statement M
 is_alive_spec = tie.close (tie.spec held-requires enum_known-r enum_told-1 is_live-requires returns-in-Refused returns-in-Accepted)

@@ -17,17 +17,17 @@ enum_told-1 c = search rules
 
 needs_commit-requires : tie.Need-needs_commit-requires
 needs_commit-requires c κs =
-    let n = c.before.before in
+    let n = c.before in
     let s = n.before in
-    (held_accepted s.args.t (sized s.args.t s.well_formed.0) (sym n.held.ensures ∙ c.enum_told-1.given.1)).test
+    (held_accepted s.args.t (sized s.args.t s.well_formed.0) (sym n.held.ensures ∙ c.in-Accepted.is)).test
 
 returns-in-Refused : tie.Need-returns-in-Refused
 unfolding bool_if
-returns-in-Refused c = let n = c.before.before.before in rw (← n.held.ensures, c.before.r-1.given.1)
+returns-in-Refused c = let n = c.before in rw (← n.held.ensures, c.in-Refused.is)
 
 returns-in-Accepted : tie.Need-returns-in-Accepted
 unfolding bool_if
-returns-in-Accepted c = let e = c.before in rw (← e.before.before.held.ensures, e.enum_told-1.given.1, c.needs_commit.ensures)
+returns-in-Accepted c = let e = c.before in rw (← e.held.ensures, e.in-Accepted.is, c.needs_commit.ensures)
 
 pub needs_commit_spec : {M : Type 1} → statement M
 needs_commit_spec = tie.close (tie.spec held-requires enum_known-r enum_told-1 needs_commit-requires returns-in-Refused returns-in-Accepted)

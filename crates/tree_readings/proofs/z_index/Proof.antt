@@ -26,15 +26,15 @@ overflow_cast-id c = search rules
 
 level_at-requires : tie.Need-level_at-requires
 level_at-requires c κs =
-    let e = c.before.before.before in
+    let e = c in
     let n = e.before.before in
-    let s = n.before in
-    let told = sym n.of_node.ensures ∙ e.enum_told-1.given.1 in
+    let s = n in
+    let told = sym n.of_node.ensures ∙ e.in-Accepted.is in
     (node_accepted s.args.t1 (sized s.args.t1 s.well_formed.0) s.args.id told).slot_low
 
 returns-in-Refused : tie.Need-returns-in-Refused
 unfolding level_if
-returns-in-Refused c = let n = c.before.before.before in rw (← n.of_node.ensures, c.before.r-1.given.1)
+returns-in-Refused c = let n = c.before in rw (← n.of_node.ensures, c.in-Refused.is)
 
 -- a signed number is read back from its bits
 accepted : (v : Verdict) (z : ℤ) → v ≡ is.Accepted → level.Value z ≡ level_if v z
@@ -44,9 +44,9 @@ accepted v z e = rw e
 returns-in-Accepted : tie.Need-returns-in-Accepted
 unfolding local_at
 returns-in-Accepted c =
-    let e = c.before.before.before.before in
+    let e = c in
     let n = e.before.before in
-    let told = sym n.of_node.ensures ∙ e.enum_told-1.given.1 in
+    let told = sym n.of_node.ensures ∙ e.in-Accepted.is in
     ap level.Value (to_z-of_z (sfits_of c.level_at.type-inv) ∙ c.level_at.ensures) ∙ accepted _ _ told
 
 pub z_index_spec : {M : Type 1} → statement M

@@ -23,28 +23,28 @@ enum_told-in_default c = search rules
 
 returns-in_default : tie.Need-returns-in_default
 returns-in_default c =
-    let k = c.before.before in
-    let A = k.before.args in
-    refused (of_node A.t A.id) k.of_node-v.result (remove_tree A.t (position_of A.t A.id.0)) A.t k.of_node-v.ensures c.enum_told-in_default-1.given.0.0 c.enum_told-in_default-1.given.1
+    let k = c.before in
+    let A = k.args in
+    refused (of_node A.t A.id) k.of_node-v.result (remove_tree A.t (position_of A.t A.id.0)) A.t k.of_node-v.ensures c.in_default.field-0 c.in_default.is
 
 -- ---- the node
 
 abbrev start : tie.In-Accepted → tie.Start
-start c = c.before.before.before
+start c = c.before.before
 
 node : (c : tie.In-Accepted) → Node (start c).args.t (start c).args.id
 node c =
     let Z = start c in
-    node_accepted Z.args.t (sized Z.args.t Z.good.0) Z.args.id (sym c.before.before.of_node-v.ensures ∙ c.enum_told-1.given.1)
+    node_accepted Z.args.t (sized Z.args.t Z.good.0) Z.args.id (sym c.of_node-v.ensures ∙ c.in-Accepted.is)
 
 position-at-requires : tie.Need-position-at-requires
 position-at-requires c κs =
-    let d = c.before.before.before in
+    let d = c in
     let Z = start d in
     ((node d).whole.count_fits, order_long Z.args.t Z.good.0)
 
 abbrev from_place : tie.After-position-at → tie.In-Accepted
-from_place c = c.before.before.before.before
+from_place c = c
 
 at_fits : (c : tie.After-position-at) → c.position-at.result < (start (from_place c)).args.t.links.count
 at_fits c =
@@ -88,9 +88,9 @@ remove_nodes-left-requires c κs =
     let A = Z.args in
     let E = e.segment-end in
     let P = p.position in (
-      few A.t Z.good.0 A.id (node d) P.result E.result P.ensures.1 E.ensures.2 E.ensures.0 E.ensures.1 _ _ g.post_order.ensures.1,
-      g.post_order.ensures.0,
-      ready A.t Z.good.0 A.id (node d) P.result E.result P.ensures.1 E.ensures.2 E.ensures.0 E.ensures.1 _ _ g.post_order.ensures.1,
+      few A.t Z.good.0 A.id (node d) P.result E.result P.ensures.1 E.ensures.2 E.ensures.0 E.ensures.1 _ _ g.post-order.ensures.1,
+      g.post-order.ensures.0,
+      ready A.t Z.good.0 A.id (node d) P.result E.result P.ensures.1 E.ensures.2 E.ensures.0 E.ensures.1 _ _ g.post-order.ensures.1,
     )
 
 abbrev from_nodes : tie.After-remove_nodes-left → tie.After-post_order

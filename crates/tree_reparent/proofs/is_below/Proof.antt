@@ -18,7 +18,7 @@ segment_end-e-requires : tie.Need-segment_end-e-requires
 segment_end-e-requires c κs = search rules
 
 returns : tie.Need-returns
-returns c = rw (c.segment_end-e.ensures.2, c.before.before.before.position-to.ensures.1, c.before.before.before.before.before.before.before.parent-1.given.1)
+returns c = rw (c.segment_end-e.ensures.2, c.position-to.ensures.1, c.in-Some.is)
 
 pub is_below_spec : {M : Type 1} → statement M
 is_below_spec =

@@ -17,17 +17,17 @@ position-to-requires c κs = search rules
 
 move_last-requires : tie.Need-move_last-requires
 move_last-requires c κs =
-    let Z = c.before.before.before.before.before.before in
+    let Z = c in
     let A = Z.args in
-    let h = c.before.before.before.before.parent-1.given in
+    let h = c.parent-1.given in
     let o = outside_some A.t1 A.at c.position-to.result A.parent h.0.0 h.1 Z.requires.3 c.position-to.ensures.1 in
     (Z.requires.0, o.0, Z.requires.1, o.1, Z.requires.2)
 
 returns-in-None : tie.Need-returns-in-None
-returns-in-None c = rw (c.move_root.ensures, c.before.enum_told-1.given.1)
+returns-in-None c = rw (c.move_root.ensures, c.in-None.is)
 
 returns-in-Some : tie.Need-returns-in-Some
-returns-in-Some c = rw (c.move_last.ensures, c.before.position-to.ensures.1, c.before.before.before.before.before.parent-1.given.1)
+returns-in-Some c = rw (c.move_last.ensures, c.position-to.ensures.1, c.in-Some.is)
 
 pub move_links_spec : {M : Type 1} → statement M
 move_links_spec =

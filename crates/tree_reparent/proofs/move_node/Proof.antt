@@ -9,10 +9,10 @@ overflow_cast-x : tie.Need-overflow_cast-x
 overflow_cast-x c = search rules
 
 move_links-t-requires : tie.Need-move_links-t-requires
-move_links-t-requires c κs = let M = c.before.before.before.requires in (M.position_fits, M.count_fits, M.depths, M.outside)
+move_links-t-requires c κs = let M = c.requires in (M.position_fits, M.count_fits, M.depths, M.outside)
 
 mark_both-t-requires : tie.Need-mark_both-t-requires
-mark_both-t-requires c κs = omega (arith, c.before.before.before.before.requires.slot_low)
+mark_both-t-requires c κs = omega (arith, c.requires.slot_low)
 
 returns : tie.Need-returns
 returns c =

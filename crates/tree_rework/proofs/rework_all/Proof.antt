@@ -39,7 +39,7 @@ E c t =
 
 abbrev At : tie.At-loop-j invariant-loop-j decreases-loop-j → Tree → Tree
 At c t =
-    let A = c.before.before.args in
+    let A = c.args in
     let L = c.loop-j in
     lent.tree (lent.slots A.slots-generation.now t.slots.used t.slots.free t.slots.frees) (lent.links A.order.now A.depth.now t.links.count)
     (lent.locals A.locals-bounds.now A.slop.now A.locals-transform.now A.kind.now A.locals-clip.now t.locals.level t.locals.flags)
@@ -48,25 +48,25 @@ At c t =
     (lent.index L.index_generation L.mark L.payload L.aabb L.auto L.prev L.u A.free.now L.f L.dirty L.q t.index.backend)
 
 -- what the turn needs
-turn : (c : tie.In-loop-j invariant-loop-j decreases-loop-j) → let S = c.before.before.before in let L = c.before.loop-j in
+turn : (c : tie.In-loop-j invariant-loop-j decreases-loop-j) → let S = c.before.before.before in let L = c.loop-j in
     Fits (from (At c.before S.requires.6.0) (done S.args.visits.now L.j (E S) S.requires.6.0 S.requires.6.1).damage) (get_or S.args.visits.now L.j 0)
 turn c =
     let S = c.before.before.before in
     let A = S.args in
     let P = S.requires in
-    let L = c.before.loop-j in
+    let L = c.loop-j in
     turn_fits A.visits.now A.n (E S) (At c.before) L.dirty A.room.now L.room A.count L.m L.j P.1 P.0 L.invariant c.loop-j-test.true P.6.0 P.6.1 P.6.3
 
 loop-j-init : tie.Need-loop-j-init invariant-loop-j decreases-loop-j
 loop-j-init c =
-    let A = c.before.args in
-    start A.visits.now A.n (E c.before) A.dirty.now A.room.now A.count c.before.requires.4
+    let A = c.args in
+    start A.visits.now A.n (E c.before) A.dirty.now A.room.now A.count c.requires.4
 
 offset_bounds-visits-j : tie.Need-offset_bounds-visits-j invariant-loop-j decreases-loop-j
-offset_bounds-visits-j c = omega (arith, c.before.before.before.requires.0, c.before.loop-j.invariant.j_fits, c.loop-j-test.true)
+offset_bounds-visits-j c = omega (arith, c.requires.0, c.loop-j.invariant.j_fits, c.loop-j-test.true)
 
 bounds-visits-j : tie.Need-bounds-visits-j invariant-loop-j decreases-loop-j
-bounds-visits-j c = omega (arith, c.before.before.before.requires.0, c.before.loop-j.invariant.j_fits, c.loop-j-test.true)
+bounds-visits-j c = omega (arith, c.requires.0, c.loop-j.invariant.j_fits, c.loop-j-test.true)
 
 overflow_cast-at : tie.Need-overflow_cast-at invariant-loop-j decreases-loop-j
 overflow_cast-at c = omega (arith, place_low (turn c.before))
@@ -76,7 +76,7 @@ rework_node-r-requires c κs =
     let S = c.before.before.before.before.before.before.before.before.before.before.before.before.before.before.before.before.before.before.before.before in
     let A = S.args in
     let P = S.requires in
-    let L = c.before.before.before.before.before.before.before.before.before.before.before.before.before.before.before.before.before.before.loop-j in
+    let L = c.loop-j in
     let t = P.6.0 in
     let ds = P.6.1 in (
       P.2,
@@ -87,26 +87,26 @@ rework_node-r-requires c κs =
     )
 
 overflow_add-j : tie.Need-overflow_add-j invariant-loop-j decreases-loop-j
-overflow_add-j c = omega (arith, c.before.before.before.before.before.before.before.before.before.before.before.before.before.before.before.before.before.before.before.before.before.before.before.requires.0, c.before.before.before.before.before.before.before.before.before.before.before.before.before.before.before.before.before.before.before.before.loop-j-test.true)
+overflow_add-j c = omega (arith, c.requires.0, c.loop-j-test.true)
 
 loop-j-smaller : tie.Need-loop-j-smaller invariant-loop-j decreases-loop-j
-loop-j-smaller c = omega (arith, c.before.before.before.before.before.before.before.before.before.before.before.before.before.before.before.before.before.before.before.before.loop-j-test.true)
+loop-j-smaller c = omega (arith, c.loop-j-test.true)
 
 loop-j-preserved : tie.Need-loop-j-preserved invariant-loop-j decreases-loop-j
 loop-j-preserved c =
     let S = c.before.before.before.before.before.before.before.before.before.before.before.before.before.before.before.before.before.before.before.before.before.before.before in
     let A = S.args in
-    let L = c.before.before.before.before.before.before.before.before.before.before.before.before.before.before.before.before.before.before.before.before.before.loop-j in
-    let R = c.before.before.rework_node-r.ensures in
-    next A.visits.now A.n (E S) (At c.before.before.before.before.before.before.before.before.before.before.before.before.before.before.before.before.before.before.before.before.before) L.dirty A.room.now L.room A.count L.m L.j S.requires.1 S.requires.0 L.invariant c.before.before.before.before.before.before.before.before.before.before.before.before.before.before.before.before.before.before.before.before.loop-j-test.true _ _ _ _ R.0 R.1.0 R.1.1
+    let L = c.loop-j in
+    let R = c.rework_node-r.ensures in
+    next A.visits.now A.n (E S) (At c.before.before.before.before.before.before.before.before.before.before.before.before.before.before.before.before.before.before.before.before.before) L.dirty A.room.now L.room A.count L.m L.j S.requires.1 S.requires.0 L.invariant c.loop-j-test.true _ _ _ _ R.0 R.1.0 R.1.1
 
 shape_of-room : tie.Need-shape_of-room invariant-loop-j decreases-loop-j
-shape_of-room c = c.before.loop-j.invariant.long
+shape_of-room c = c.loop-j.invariant.long
 
 returns : tie.Need-returns invariant-loop-j decreases-loop-j
 returns c =
-    let L = c.before.loop-j in
-    let e : L.j ≡ c.before.before.before.args.n = omega (arith, L.invariant.j_fits, c.loop-j-test.false) in
+    let L = c.loop-j in
+    let e : L.j ≡ c.args.n = omega (arith, L.invariant.j_fits, c.loop-j-test.false) in
     rw (← e) (
       (λ t ds. (L.invariant.state t ds, (λ en. (L.invariant.counted t ds en, (λ room₀ er. L.invariant.lies t ds room₀ en er))))),
       (L.invariant.whole, L.invariant.long),

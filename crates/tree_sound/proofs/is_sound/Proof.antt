@@ -26,11 +26,11 @@ dirty_long c = length_unmapped ℕ c.args.t1.index.dirty 512 c.well_formed.0.1.1
 
 sound_tables-requires : tie.Need-sound_tables-requires
 sound_tables-requires c κs =
-    let s = c.before.before.before.before.before.before.before.before.before.before.before.before.before.before.before.before.before.before.before.before.before.before.before.before in
+    let s = c in
     (order_long s, depth_long s, free_long s, mark_long s, entries_free_long s, dirty_long s)
 
 returns : tie.Need-returns
-returns c = let s = c.before.before.before.before.before.before.before.before.before.before.before.before.before.before.before.before.before.before.before.before.before.before.before.before.before in c.sound_tables.ensures s.args.t1
+returns c = let s = c in c.sound_tables.ensures s.args.t1
 
 pub is_sound_spec : {M : Type 1} → statement M
 is_sound_spec = tie.close (tie.spec sound_tables-requires returns)

@@ -83,10 +83,10 @@ returns-then-not-live c =
     λ t. sym (unsound_slots (tree k.before t) (sym k.count_slots-live.ensures.0 ∙ not-true k.count_slots-live.result.ok c.if-not-live.true))
 
 depths_ok-shape-requires : tie.Need-depths_ok-shape-requires
-depths_ok-shape-requires c κs = (fit c, c.before.before.requires.1)
+depths_ok-shape-requires c κs = (fit c, c.requires.1)
 
 is_sound-index-requires : tie.Need-is_sound-index-requires
-is_sound-index-requires c κs = (c.before.before.before.requires.4, c.before.before.before.requires.5)
+is_sound-index-requires c κs = (c.requires.4, c.requires.5)
 
 returns-then-not-index : tie.Need-returns-then-not-index
 returns-then-not-index c =
@@ -115,7 +115,7 @@ count_committed-owning-requires : tie.Need-count_committed-owning-requires
 count_committed-owning-requires c κs = listed (slots_passed c.before.before.before.before.before.before.before.before)
 
 overflow_add-few : tie.Need-overflow_add-few
-overflow_add-few c = omega (arith, c.count_committed-owning.ensures.0, c.before.count_removed-removed.ensures.0)
+overflow_add-few c = omega (arith, c.count_committed-owning.ensures.0, c.count_removed-removed.ensures.0)
 
 returns : tie.Need-returns
 returns c =
@@ -130,7 +130,7 @@ returns c =
     let k = (slots_passed e).before in
     λ t. answered (tree s t) s.pre.0 (right (slots_passed e)) k.count-slots.result.times (k.count-slots.ensures.1 (passed (slots_passed e)))
     s.pre.3 s.pre.4 s.pre.5 (sound e)
-    e.before.before.depths_ok-shape.ensures
+    e.depths_ok-shape.ensures
     values.values_right-values.ensures
     marks.marks_right-marks.ensures
     owners.owners_right-owners.ensures

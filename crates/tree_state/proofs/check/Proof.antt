@@ -14,11 +14,11 @@ enum_known-v c = search rules
 
 returns-in-Accepted : tie.Need-returns-in-Accepted
 unfolding checked
-returns-in-Accepted c = rw (c.before.enum_told-1.given.1, c.check_next.ensures)
+returns-in-Accepted c = rw (c.in-Accepted.is, c.check_next.ensures)
 
 returns-in-Refused : tie.Need-returns-in-Refused
 unfolding checked
-returns-in-Refused c = rw c.before.v-1.given.1
+returns-in-Refused c = rw c.in-Refused.is
 
 pub check_spec : {M : Type 1} → statement M
 check_spec = tie.close (tie.spec enum_told-1 check_next-requires enum_known-v returns-in-Accepted returns-in-Refused)

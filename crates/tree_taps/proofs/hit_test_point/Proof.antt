@@ -16,11 +16,11 @@ use Rattle.tree_taps.proofs.hit_test_point.Tie as tie
 
 -- before the tables are lent to the verdict
 abbrev start : tie.After-asked_verdict-fresh → tie.Start
-start c = c.before.before.before.before.before.before.before.before.before.before.before.before.before.before.before.before.before.before.before.before.before.before.before.before.before.before.before
+start c = c
 
 asked_verdict-fresh-requires : tie.Need-asked_verdict-fresh-requires
 asked_verdict-fresh-requires c κs =
-    let s = c.before.before.before.before.before.before.before.before.before.before.before.before.before.before.before.before.before.before.before.before.before.before.before.before.before.before in
+    let s = c in
     let l = sized s.args.t1 s.well_formed.0 in
     (l.order, l.depth, l.free, l.mark, l.entries_free, l.dirty)
 
@@ -31,37 +31,37 @@ room_verdict-v-requires c κs = search rules
 judged : (c : tie.After-room_verdict-v) → let A = (start c.before).args in c.room_verdict-v.result ≡ request_verdict A.t1 A.filter.required_flags (length A.room.now)
 judged c =
     let A = (start c.before).args in
-    c.room_verdict-v.ensures ∙ ap (λ (v : Verdict). room_verdict v (length A.room.now)) (c.before.asked_verdict-fresh.ensures A.t1)
+    c.room_verdict-v.ensures ∙ ap (λ (v : Verdict). room_verdict v (length A.room.now)) (c.asked_verdict-fresh.ensures A.t1)
 
 enum_known-v : tie.Need-enum_known-v
 enum_known-v c = search rules
 
 returns-in-Refused : tie.Need-returns-in-Refused
 returns-in-Refused c =
-    let w = c.before.before.before in
+    let w = c.before in
     let A = (start w.before).args in
     let asked = A.filter.required_flags in
-    refused (request_verdict A.t1 asked (length A.room.now)) A.t1 (hit_node A.t1 asked A.point) A.room.now _ (sym (judged w) ∙ c.before.v-1.given.1)
+    refused (request_verdict A.t1 asked (length A.room.now)) A.t1 (hit_node A.t1 asked A.point) A.room.now _ (sym (judged w) ∙ c.in-Refused.is)
 
 enum_told-1 : tie.Need-enum_told-1
 enum_told-1 c = search rules
 
-yes : (c : tie.In_default) → let A = (start c.before.before.before).args in request_verdict A.t1 A.filter.required_flags (length A.room.now) ≡ is.Accepted
-yes c = sym (judged c.before.before) ∙ c.enum_told-1.given.1
+yes : (c : tie.In_default) → let A = (start c.before.before).args in request_verdict A.t1 A.filter.required_flags (length A.room.now) ≡ is.Accepted
+yes c = sym (judged c.before) ∙ c.in_default.is
 
-took : (c : tie.In_default) → let A = (start c.before.before.before).args in Accepted A.t1 (length A.room.now)
+took : (c : tie.In_default) → let A = (start c.before.before).args in Accepted A.t1 (length A.room.now)
 took c =
-    let s = start c.before.before.before in
+    let s = start c.before.before in
     let A = s.args in
     accepted A.t1 (sized A.t1 s.good.0) A.filter.required_flags (length A.room.now) (yes c)
 
 -- before the tables are lent to the search
 abbrev from : tie.After-strongest-best → tie.In_default
-from c = c.before.before.before.before.before.before.before.before.before.before.before.before.before.before.before.before
+from c = c
 
 strongest-best-requires : tie.Need-strongest-best-requires
 strongest-best-requires c κs =
-    let e = c.before.before.before.before.before.before.before.before.before.before.before.before.before.before.before in
+    let e = c in
     let s = start e.before.before.before in
     tappable s.args.t1 (sized s.args.t1 s.good.0) (took e).whole (took e).no_need
 
@@ -78,8 +78,8 @@ returns-then-best-eq256 c =
     nothing (request_verdict A.t1 asked (length A.room.now)) A.t1 (hit_node A.t1 asked A.point) A.room.now (yes e) (sym n ∙ best_none A.t1)
 
 -- the best is shown
-shown : (c : tie.Else-best-eq256) → let A = (start (from c.before).before.before.before).args in Shown A.t1.links.order A.t1.links.count c.before.strongest-best.result
-shown c = c.before.strongest-best.ensures.1 c.if-best-eq256.false
+shown : (c : tie.Else-best-eq256) → let A = (start (from c.before).before.before.before).args in Shown A.t1.links.order A.t1.links.count c.strongest-best.result
+shown c = c.strongest-best.ensures.1 c.if-best-eq256.false
 
 overflow_cast-x : tie.Need-overflow_cast-x
 overflow_cast-x c = omega (arith, (shown c).0)
@@ -101,7 +101,7 @@ write_path-deep-requires c κs =
     let s = start e.before.before.before in
     let z = sized s.args.t1 s.good.0 in
     let p = sound_places s.args.t1 z (took e).whole.test in
-    let at = c.before.before.before.before.before.before.before.before.position-at.ensures.1 in
+    let at = c.position-at.ensures.1 in
     (omega (arith, at, (shown y).1), p.0, omega (arith, (shown y).0), p.1, z.depth, (took e).whole.depths, p.2, (took e).long)
 
 shape_of-room : tie.Need-shape_of-room
@@ -113,12 +113,12 @@ returns c =
     let e = from y.before in
     let A = (start e.before.before.before).args in
     let asked = A.filter.required_flags in
-    let S = y.before.strongest-best in
-    let W = c.before.before.write_path-deep in
+    let S = y.strongest-best in
+    let W = c.write_path-deep in
     let x = S.result in
-    let at = c.before.before.before.before.before.before.before.before.before.before.before.position-at.ensures.1 in
+    let at = c.position-at.ensures.1 in
     let E = rw (at, ← path_at_lem A.t1 x) at W.ensures in
-    hit (request_verdict A.t1 asked (length A.room.now)) A.t1 (hit_node A.t1 asked A.point) A.room.now x _ _ _ (yes e) (sym (told y.before) ∙ best_some A.t1 x y.if-best-eq256.false) c.before.before.before.before.before.before.before.before.id_of-own.ensures E.0 E.1
+    hit (request_verdict A.t1 asked (length A.room.now)) A.t1 (hit_node A.t1 asked A.point) A.room.now x _ _ _ (yes e) (sym (told y.before) ∙ best_some A.t1 x y.if1.false) c.id_of-own.ensures E.0 E.1
 
 pub hit_test_point_spec : {M : Type 1} → statement M
 hit_test_point_spec =

@@ -14,11 +14,11 @@ intersect-requires c κs = search rules
 
 returns-in-None : tie.Need-returns-in-None
 unfolding clipped
-returns-in-None c = rw c.enum_told-1.given.1
+returns-in-None c = rw c.in-None.is
 
 returns-in-Some : tie.Need-returns-in-Some
 unfolding clipped
-returns-in-Some c = rw (c.before.before.clip-1.given.1, c.intersect.ensures)
+returns-in-Some c = rw (c.in-Some.is, c.intersect.ensures)
 
 pub clipped_spec : {M : Type 1} → statement M
 clipped_spec = tie.close (tie.spec enum_told-1 enum_known-clip intersect-requires returns-in-None returns-in-Some)

@@ -17,7 +17,7 @@ contains-in_clip-requires c κs = search rules
 
 returns : tie.Need-returns
 unfolding reached
-returns c = rw (c.contains-in_clip.ensures, c.before.contains-in_bounds.ensures, c.before.before.add-region.ensures, c.before.before.before.map_point-local_point.ensures)
+returns c = rw (c.contains-in_clip.ensures, c.contains-in_bounds.ensures, c.add-region.ensures, c.map_point-local_point.ensures)
 
 pub contains_spec : {M : Type 1} → statement M
 contains_spec =

@@ -14,11 +14,11 @@ transform_rect_bbox-requires c κs = search rules
 
 returns-in-None : tie.Need-returns-in-None
 unfolding image
-returns-in-None c = rw c.enum_told-1.given.1
+returns-in-None c = rw c.in-None.is
 
 returns-in-Some : tie.Need-returns-in-Some
 unfolding image
-returns-in-Some c = rw (c.before.before.r-1.given.1, c.transform_rect_bbox.ensures)
+returns-in-Some c = rw (c.in-Some.is, c.transform_rect_bbox.ensures)
 
 pub image_spec : {M : Type 1} → statement M
 image_spec =

@@ -14,11 +14,11 @@ meet_own-requires c κs = search rules
 
 returns-in-None : tie.Need-returns-in-None
 unfolding meet
-returns-in-None c = rw c.enum_told-1.given.1
+returns-in-None c = rw c.in-None.is
 
 returns-in-Some : tie.Need-returns-in-Some
 unfolding meet
-returns-in-Some c = rw (c.before.before.own-1.given.1, c.meet_own.ensures)
+returns-in-Some c = rw (c.in-Some.is, c.meet_own.ensures)
 
 pub meet_spec : {M : Type 1} → statement M
 meet_spec = tie.close (tie.spec enum_told-1 enum_known-own meet_own-requires returns-in-None returns-in-Some)

@@ -14,11 +14,11 @@ intersect-requires c κs = search rules
 
 returns-in-None : tie.Need-returns-in-None
 unfolding meet_own
-returns-in-None c = rw c.enum_told-1.given.1
+returns-in-None c = rw c.in-None.is
 
 returns-in-Some : tie.Need-returns-in-Some
 unfolding meet_own
-returns-in-Some c = rw (c.before.before.parent-1.given.1, c.intersect.ensures)
+returns-in-Some c = rw (c.in-Some.is, c.intersect.ensures)
 
 pub meet_own_spec : {M : Type 1} → statement M
 meet_own_spec =

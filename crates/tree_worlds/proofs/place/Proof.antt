@@ -17,7 +17,7 @@ meet-clip-requires c κs = search rules
 
 returns : tie.Need-returns
 unfolding placed
-returns c = rw (c.meet-clip.ensures, c.before.image-own.ensures, c.before.before.rect.ensures, c.before.before.before.mul-transform.ensures)
+returns c = rw (c.meet-clip.ensures, c.image-own.ensures, c.rect.ensures, c.mul-transform.ensures)
 
 pub place_spec : {M : Type 1} → statement M
 place_spec = tie.close (tie.spec mul-transform-requires rect-requires image-own-requires meet-clip-requires returns)

@@ -11,7 +11,7 @@ clipped-requires c κs = search rules
 
 returns : tie.Need-returns
 unfolding world_box
-returns c = rw (c.clipped.ensures, c.before.transform_rect_bbox.ensures)
+returns c = rw (c.clipped.ensures, c.transform_rect_bbox.ensures)
 
 pub world_bounds_spec : {M : Type 1} → statement M
 world_bounds_spec = tie.close (tie.spec transform_rect_bbox-requires clipped-requires returns)

@@ -11,7 +11,7 @@ world_bounds-requires c κs = search rules
 
 returns-then-is_zero : tie.Need-returns-then-is_zero
 unfolding hit_box
-returns-then-is_zero c = rw (c.world_bounds.ensures, ← c.before.before.is_zero.ensures, c.before.if-is_zero.true)
+returns-then-is_zero c = rw (c.world_bounds.ensures, ← c.is_zero.ensures, c.if-is_zero.true)
 
 add-grown-requires : tie.Need-add-grown-requires
 add-grown-requires c κs = search rules
@@ -21,7 +21,7 @@ world_bounds-requires-2 c κs = search rules
 
 returns : tie.Need-returns
 unfolding hit_box
-returns c = rw (c.world_bounds-2.ensures, c.before.add-grown.ensures, ← c.before.before.before.is_zero.ensures, c.before.before.if-is_zero.false)
+returns c = rw (c.world_bounds-2.ensures, c.add-grown.ensures, ← c.is_zero.ensures, c.if-is_zero.false)
 
 pub world_hit_bounds_spec : {M : Type 1} → statement M
 world_hit_bounds_spec =

@@ -8,11 +8,11 @@ is_zero-requires c κs = search rules
 
 returns-then-is_zero : tie.Need-returns-then-is_zero
 unfolding shaped
-returns-then-is_zero c = rw (shaped, ← c.before.is_zero.ensures, c.if-is_zero.true)
+returns-then-is_zero c = rw (shaped, ← c.is_zero.ensures, c.if-is_zero.true)
 
 returns : tie.Need-returns
 unfolding shaped
-returns c = rw (shaped, ← c.before.is_zero.ensures, c.if-is_zero.false)
+returns c = rw (shaped, ← c.is_zero.ensures, c.if-is_zero.false)
 
 pub shape_spec : {M : Type 1} → statement M
 shape_spec = tie.close (tie.spec is_zero-requires returns-then-is_zero returns)

@@ -39,11 +39,11 @@ returns-in-None c = search rules
 
 returns-in-Square : tie.Need-returns-in-Square
 unfolding as_constructed
-returns-in-Square c = rw (c.before.before.before.clip-1.given.1, c.same_rect.ensures, c.before.abs.ensures)
+returns-in-Square c = rw (c.in-Square.is, c.same_rect.ensures, c.abs.ensures)
 
 returns-in-Rounded : tie.Need-returns-in-Rounded
 unfolding as_constructed
-returns-in-Rounded c = rw (c.before.before.before.before.before.before.clip-in-Rounded-1.given.1, c.is_zero.ensures, c.before.same_radii.ensures, c.before.before.fit.ensures, c.before.before.before.same_rect-in-Rounded.ensures, c.before.before.before.before.abs-in-Rounded.ensures)
+returns-in-Rounded c = rw (c.in-Rounded.is, c.is_zero.ensures, c.same_radii.ensures, c.fit.ensures, c.same_rect-in-Rounded.ensures, c.abs-in-Rounded.ensures)
 
 pub is_constructed_spec : {M : Type 1} → statement M
 is_constructed_spec =

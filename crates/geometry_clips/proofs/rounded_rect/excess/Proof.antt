@@ -15,7 +15,7 @@ max-requires c κs = search rules
 
 returns : tie.Need-returns
 unfolding excess of_bits of_fields odd
-returns c = rw (c.max.ensures, c.before.abs.ensures, c.before.before.max-straight.ensures)
+returns c = rw (c.max.ensures, c.abs.ensures, c.max-straight.ensures)
 
 pub excess_spec : {M : Type 1} → statement M
 excess_spec = tie.close (tie.spec max-straight-requires abs-requires max-requires returns)

@@ -21,7 +21,7 @@ excess-py-requires c κs = search rules
 
 returns : tie.Need-returns
 unfolding inside_rounded of_bits of_fields odd
-returns c = rw (c.excess-py.ensures, c.before.height.ensures, c.before.before.excess-px.ensures, c.before.before.before.width.ensures, c.before.before.before.before.quadrant-radius.ensures)
+returns c = rw (c.excess-py.ensures, c.height.ensures, c.excess-px.ensures, c.width.ensures, c.quadrant-radius.ensures)
 
 pub winding_spec : {M : Type 1} → statement M
 winding_spec =

@@ -24,7 +24,7 @@ bounds-kept-x : tie.Need-bounds-kept-x
 bounds-kept-x c = search rules
 
 returns : tie.Need-returns
-returns c = (refl, (refl, (c.before.before.put_id.ensures, (c.put_box.ensures, refl))))
+returns c = (refl, (refl, (c.put_id.ensures, (c.put_box.ensures, refl))))
 
 pub store_entry_spec : {M : Type 1} → statement M
 store_entry_spec =

@@ -5,7 +5,7 @@ use Rattle.index_entries.proofs.reads.look_up.Tie as tie
 
 returns-then-key-ge512 : tie.Need-returns-then-key-ge512
 unfolding look_up
-returns-then-key-ge512 c = let A = c.before.before.args in rw (look_up, le-ltb A.key.0 512 c.if-key-ge512.true)
+returns-then-key-ge512 c = let A = c.args in rw (look_up, le-ltb A.key.0 512 c.if-key-ge512.true)
 
 overflow_cast-x : tie.Need-overflow_cast-x
 overflow_cast-x c = search rules
@@ -21,7 +21,7 @@ bounds-generation-x c = search rules
 
 returns-then-mark-x : tie.Need-returns-then-mark-x
 unfolding look_up
-returns-then-mark-x c = let A = c.before.before.before.before.before.before.before.args in rw (look_up, lt-ltb A.key.0 512 c.before.before.before.before.before.if-key-ge512.false, c.if-mark-x.true)
+returns-then-mark-x c = let A = c.args in rw (look_up, lt-ltb A.key.0 512 c.if-key-ge512.false, c.if-mark-x.true)
 
 box_at-requires : tie.Need-box_at-requires
 box_at-requires c κs = search rules
@@ -40,7 +40,7 @@ previous_at-requires c κs = search rules
 
 returns : tie.Need-returns
 unfolding look_up
-returns c = let A = c.before.before.before.before.before.before.before.before.before.before.before.before.args in rw (look_up, lt-ltb A.key.0 512 c.before.before.before.before.before.before.before.before.before.before.if-key-ge512.false, c.before.before.before.before.before.if-mark-x.false, c.previous_at.ensures, c.before.mark_of.ensures, c.before.before.before.id_at.ensures, c.before.before.before.before.box_at.ensures)
+returns c = let A = c.args in rw (look_up, lt-ltb A.key.0 512 c.if-key-ge512.false, c.if-mark-x.false, c.previous_at.ensures, c.mark_of.ensures, c.id_at.ensures, c.box_at.ensures)
 
 pub look_up_spec : {M : Type 1} → statement M
 look_up_spec =

@@ -8,14 +8,14 @@ bounds-kept-x c = search rules
 
 returns-then-kept-x-eq0 : tie.Need-returns-then-kept-x-eq0
 unfolding previous_at
-returns-then-kept-x-eq0 c = let A = c.before.before.args in rw (previous_at, eq-eqb (get_or A.kept.now A.x 0) 0 c.if-kept-x-eq0.true)
+returns-then-kept-x-eq0 c = let A = c.args in rw (previous_at, eq-eqb (get_or A.kept.now A.x 0) 0 c.if-kept-x-eq0.true)
 
 box_at-requires : tie.Need-box_at-requires
 box_at-requires c κs = search rules
 
 returns : tie.Need-returns
 unfolding previous_at
-returns c = let A = c.before.before.before.args in rw (previous_at, ne_eqb (get_or A.kept.now A.x 0) 0 c.before.if-kept-x-eq0.false, c.box_at.ensures)
+returns c = let A = c.args in rw (previous_at, ne_eqb (get_or A.kept.now A.x 0) 0 c.if-kept-x-eq0.false, c.box_at.ensures)
 
 pub previous_at_spec : {M : Type 1} → statement M
 previous_at_spec = tie.close (tie.spec bounds-kept-x returns-then-kept-x-eq0 box_at-requires returns)

@@ -10,13 +10,13 @@ bounds-mark-at : tie.Need-bounds-mark-at
 bounds-mark-at c = search rules
 
 offset_bounds-free-frees : tie.Need-offset_bounds-free-frees
-offset_bounds-free-frees c = omega (arith, c.before.before.requires.4 (ap added c.enum_told-1.given.1))
+offset_bounds-free-frees c = omega (arith, c.requires.4 (ap added c.in-Added.is))
 
 bounds-free-frees : tie.Need-bounds-free-frees
-bounds-free-frees c = omega (arith, c.before.before.requires.4 (ap added c.enum_told-1.given.1))
+bounds-free-frees c = omega (arith, c.requires.4 (ap added c.in-Added.is))
 
 overflow_add-result : tie.Need-overflow_add-result
-overflow_add-result c = omega (arith, c.before.before.requires.4 (ap added c.enum_told-1.given.1))
+overflow_add-result c = omega (arith, c.requires.4 (ap added c.in-Added.is))
 
 enum_told-in-Unmarked : tie.Need-enum_told-in-Unmarked
 enum_told-in-Unmarked c = search rules
@@ -40,16 +40,16 @@ bounds-mark-at-in-Removed : tie.Need-bounds-mark-at-in-Removed
 bounds-mark-at-in-Removed c = search rules
 
 returns-in-Added : tie.Need-returns-in-Added
-returns-in-Added c = rw c.enum_told-1.given.1 (refl, (refl, (refl, (refl, refl))))
+returns-in-Added c = rw c.in-Added.is (refl, (refl, (refl, (refl, refl))))
 
 returns-in-Unmarked : tie.Need-returns-in-Unmarked
-returns-in-Unmarked c = let q = c.queue_dirty_slot.ensures in rw c.before.before.enum_told-in-Unmarked-1.given.1 (refl, (refl, (q.0, (refl, q.1))))
+returns-in-Unmarked c = let q = c.queue_dirty_slot.ensures in rw c.in-Unmarked.is (refl, (refl, (q.0, (refl, q.1))))
 
 returns-in-Updated : tie.Need-returns-in-Updated
-returns-in-Updated c = rw c.enum_told-in-Updated-1.given.1 (refl, (refl, (refl, (refl, refl))))
+returns-in-Updated c = rw c.in-Updated.is (refl, (refl, (refl, (refl, refl))))
 
 returns-in-Removed : tie.Need-returns-in-Removed
-returns-in-Removed c = rw c.enum_told-in-Removed-1.given.1 (refl, (refl, (refl, (refl, refl))))
+returns-in-Removed c = rw c.in-Removed.is (refl, (refl, (refl, (refl, refl))))
 
 pub remove_entry_spec : {M : Type 1} → statement M
 remove_entry_spec =

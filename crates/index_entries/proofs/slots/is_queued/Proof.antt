@@ -27,10 +27,10 @@ loop-i-smaller : tie.Need-loop-i-smaller invariant-loop-i decreases-loop-i
 loop-i-smaller c = search rules
 
 loop-i-preserved : tie.Need-loop-i-preserved invariant-loop-i decreases-loop-i
-loop-i-preserved c = let L = c.before.before.loop-i in let A = c.before.before.before.args in (omega arith, omega arith, search rules, rw L.invariant.3 (sym (stands_next A.x A.dirty.now L.i (omega arith))))
+loop-i-preserved c = let L = c.loop-i in let A = c.args in (omega arith, omega arith, search rules, rw L.invariant.3 (sym (stands_next A.x A.dirty.now L.i (omega arith))))
 
 returns : tie.Need-returns invariant-loop-i decreases-loop-i
-returns c = let L = c.before.loop-i in let e : L.i ≡ c.before.before.args.queued = omega arith in rw (← e) L.invariant.3
+returns c = let L = c.loop-i in let e : L.i ≡ c.args.queued = omega arith in rw (← e) L.invariant.3
 
 pub is_queued_spec : {M : Type 1} → statement M
 is_queued_spec =

@@ -7,7 +7,7 @@ overflow_cast-result : tie.Need-overflow_cast-result
 overflow_cast-result c = search rules
 
 returns-then-frees-eq0 : tie.Need-returns-then-frees-eq0
-returns-then-frees-eq0 c = let A = c.before.args in (sym (slot_unused A.generation.now A.free.now A.frees A.used c.if-frees-eq0.true), sym (generation_unused A.generation.now A.free.now A.frees A.used c.if-frees-eq0.true))
+returns-then-frees-eq0 c = let A = c.args in (sym (slot_unused A.generation.now A.free.now A.frees A.used c.if-frees-eq0.true), sym (generation_unused A.generation.now A.free.now A.frees A.used c.if-frees-eq0.true))
 
 overflow_sub-slot : tie.Need-overflow_sub-slot
 overflow_sub-slot c = search rules
@@ -19,19 +19,19 @@ bounds-free-frees : tie.Need-bounds-free-frees
 bounds-free-frees c = search rules
 
 overflow_cast-slot : tie.Need-overflow_cast-slot
-overflow_cast-slot c = let A = c.before.before.args in omega (arith, c.before.before.requires.2, slot_last A.generation.now A.free.now A.frees A.used c.before.if-frees-eq0.false)
+overflow_cast-slot c = let A = c.args in omega (arith, c.requires.2, slot_last A.generation.now A.free.now A.frees A.used c.if-frees-eq0.false)
 
 offset_bounds-generation-slot : tie.Need-offset_bounds-generation-slot
-offset_bounds-generation-slot c = let A = c.before.before.args in omega (arith, c.before.before.requires.2, slot_last A.generation.now A.free.now A.frees A.used c.before.if-frees-eq0.false)
+offset_bounds-generation-slot c = let A = c.args in omega (arith, c.requires.2, slot_last A.generation.now A.free.now A.frees A.used c.if-frees-eq0.false)
 
 bounds-generation-slot : tie.Need-bounds-generation-slot
-bounds-generation-slot c = let A = c.before.before.args in omega (arith, c.before.before.requires.2, slot_last A.generation.now A.free.now A.frees A.used c.before.if-frees-eq0.false)
+bounds-generation-slot c = let A = c.args in omega (arith, c.requires.2, slot_last A.generation.now A.free.now A.frees A.used c.if-frees-eq0.false)
 
 next_generation-requires : tie.Need-next_generation-requires
 next_generation-requires c κs = search rules
 
 returns : tie.Need-returns
-returns c = let A = c.before.before.before.before.args in let n = c.before.before.before.if-frees-eq0.false in (sym (slot_last A.generation.now A.free.now A.frees A.used n), c.next_generation.ensures ∙ sym (generation_next A.generation.now A.free.now A.frees A.used n))
+returns c = let A = c.args in let n = c.if-frees-eq0.false in (sym (slot_last A.generation.now A.free.now A.frees A.used n), c.next_generation.ensures ∙ sym (generation_next A.generation.now A.free.now A.frees A.used n))
 
 pub next_slot_spec : {M : Type 1} → statement M
 next_slot_spec =

@@ -17,7 +17,7 @@ max_t-requires-2 c κs = search rules
 
 returns : tie.Need-returns
 unfolding union
-returns c = rw (c.max_t-2.ensures, c.before.max_t.ensures, c.before.before.min_t-2.ensures, c.before.before.before.min_t.ensures)
+returns c = rw (c.max_t-2.ensures, c.max_t.ensures, c.min_t-2.ensures, c.min_t.ensures)
 
 pub union_spec : {M : Type 1} → statement M
 union_spec =

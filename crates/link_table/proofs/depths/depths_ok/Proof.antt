@@ -24,8 +24,8 @@ bounds-depth-i : tie.Need-bounds-depth-i invariant-loop-i decreases-loop-i
 bounds-depth-i c = search rules
 
 returns-then-d-lt1 : tie.Need-returns-then-d-lt1 invariant-loop-i decreases-loop-i
-returns-then-d-lt1 c = let L = c.before.before.before.loop-i in
-    let A = c.before.before.before.before.args in
+returns-then-d-lt1 c = let L = c.loop-i in
+    let A = c.args in
     let D = A.depth.now in
     let len : length D ≡ 256 = search rules in
     sym (L.invariant.3 ∙ shape_zero L.b A.n L.i D (omega arith) (omega arith) (omega arith))
@@ -34,8 +34,8 @@ overflow_add-b : tie.Need-overflow_add-b invariant-loop-i decreases-loop-i
 overflow_add-b c = search rules
 
 returns-then-b-d : tie.Need-returns-then-b-d invariant-loop-i decreases-loop-i
-returns-then-b-d c = let L = c.before.before.before.before.loop-i in
-    let A = c.before.before.before.before.before.args in
+returns-then-b-d c = let L = c.loop-i in
+    let A = c.args in
     let D = A.depth.now in
     let len : length D ≡ 256 = search rules in
     sym (L.invariant.3 ∙ shape_jump L.b A.n L.i D (omega arith) (omega arith) (omega arith) (omega arith))
@@ -47,15 +47,15 @@ loop-i-smaller : tie.Need-loop-i-smaller invariant-loop-i decreases-loop-i
 loop-i-smaller c = search rules
 
 loop-i-preserved : tie.Need-loop-i-preserved invariant-loop-i decreases-loop-i
-loop-i-preserved c = let L = c.before.before.before.before.loop-i in
-    let A = c.before.before.before.before.before.args in
+loop-i-preserved c = let L = c.loop-i in
+    let A = c.args in
     let D = A.depth.now in
     let len : length D ≡ 256 = search rules in
     (omega arith, omega arith, omega arith, L.invariant.3 ∙ shape_on L.b A.n L.i D (omega arith) (omega arith) (omega arith) (omega arith))
 
 returns : tie.Need-returns invariant-loop-i decreases-loop-i
-returns c = let L = c.before.loop-i in
-    let A = c.before.before.args in
+returns c = let L = c.loop-i in
+    let A = c.args in
     let e : L.i ≡ A.n = omega arith in
     sym (rw e at L.invariant.3 ∙ shape_end L.b A.n A.depth.now)
 

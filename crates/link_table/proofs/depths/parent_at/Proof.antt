@@ -40,19 +40,19 @@ bounds-order-j c = search rules
 
 returns-then-depth-j : tie.Need-returns-then-depth-j invariant-loop-j decreases-loop-j
 returns-then-depth-j c =
-    let L = c.before.before.before.before.loop-j in
-    let A = c.before.before.before.before.before.before.args in
+    let L = c.loop-j in
+    let A = c.args in
     let lx : length A.order.now ≡ 256 = search rules in
     let ld : length A.depth.now ≡ 256 = search rules in
-    sym (L.invariant.2 ∙ parent_stop (get_or A.depth.now A.at 0) A.root L.j A.order.now A.depth.now (omega arith) (omega arith) (omega arith) c.before.if-depth-j.true)
+    sym (L.invariant.2 ∙ parent_stop (get_or A.depth.now A.at 0) A.root L.j A.order.now A.depth.now (omega arith) (omega arith) (omega arith) c.if-depth-j.true)
 
 loop-j-smaller : tie.Need-loop-j-smaller invariant-loop-j decreases-loop-j
 loop-j-smaller c = search rules
 
 loop-j-preserved : tie.Need-loop-j-preserved invariant-loop-j decreases-loop-j
 loop-j-preserved c =
-    let L = c.before.before.before.loop-j in
-    let A = c.before.before.before.before.before.args in
+    let L = c.loop-j in
+    let A = c.args in
     let lx : length A.order.now ≡ 256 = search rules in
     let ld : length A.depth.now ≡ 256 = search rules in
     (omega arith, omega arith, L.invariant.2 ∙ parent_on (get_or A.depth.now A.at 0) A.root L.j A.order.now A.depth.now (omega arith) (omega arith) (omega arith) c.if-depth-j.false)
@@ -60,7 +60,7 @@ loop-j-preserved c =
 returns : tie.Need-returns invariant-loop-j decreases-loop-j
 unfolding last_above
 returns c =
-    let L = c.before.loop-j in
+    let L = c.loop-j in
     let z : L.j ≡ 0 = omega arith in
     sym (rw z at L.invariant.2)
 

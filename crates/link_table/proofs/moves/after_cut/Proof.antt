@@ -9,13 +9,13 @@ overflow_sub-result : tie.Need-overflow_sub-result
 overflow_sub-result c = search rules
 
 overflow_sub-result-else-p-at : tie.Need-overflow_sub-result-else-p-at
-overflow_sub-result-else-p-at c = omega (arith, c.before.requires.1 c.if-p-at.false)
+overflow_sub-result-else-p-at c = omega (arith, c.requires.1 c.if-p-at.false)
 
 returns-then-p-at : tie.Need-returns-then-p-at
-returns-then-p-at c = let A = c.before.args in sym (after_less A.at A.e A.p c.if-p-at.true)
+returns-then-p-at c = let A = c.args in sym (after_less A.at A.e A.p c.if-p-at.true)
 
 returns-else-p-at : tie.Need-returns-else-p-at
-returns-else-p-at c = let A = c.before.args in sym (after_more A.at A.e A.p c.if-p-at.false)
+returns-else-p-at c = let A = c.args in sym (after_more A.at A.e A.p c.if-p-at.false)
 
 pub after_cut_spec : {M : Type 1} → statement M
 after_cut_spec = tie.close (tie.spec overflow_sub-result overflow_sub-result-else-p-at returns-then-p-at returns-else-p-at)

@@ -20,9 +20,9 @@ overflow_add-l c = search rules
 
 returns : tie.Need-returns
 returns c =
-    let A = c.before.before.before.before.before.before.before.args in
-    let E = c.before.before.before.before.segment_end-e in
-    tree_cut A.t1 c.before.before.cut_out.new.0 c.cut_out-2.new.0 A.at E.result E.ensures.2 c.before.before.cut_out.ensures.1 c.cut_out-2.ensures.1
+    let A = c.args in
+    let E = c.segment_end-e in
+    tree_cut A.t1 c.cut_out.new.0 c.cut_out-2.new.0 A.at E.result E.ensures.2 c.cut_out.ensures.1 c.cut_out-2.ensures.1
 
 pub cut_tree_spec : {M : Type 1} → statement M
 cut_tree_spec =

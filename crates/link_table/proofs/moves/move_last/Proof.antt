@@ -27,14 +27,14 @@ bounds-depth-to c = search rules
 
 overflow_add-above : tie.Need-overflow_add-above
 overflow_add-above c =
-    let Z = c.before.before.before.before.before.before in
+    let Z = c in
     let T = Z.args.t1 in
     omega (arith, depth_fits T.count T.depth Z.requires.4 Z.args.to Z.requires.1, Z.requires)
 
 shift-requires : tie.Need-shift-requires
 shift-requires c κs =
-    let E = c.before.before.before.segment_end-e in
-    let Z = c.before.before.before.before.before.before in
+    let E = c.segment_end-e in
+    let Z = c in
     let T = Z.args.t1 in
     let small = depth_fits T.count T.depth Z.requires.4 in
     let d = small Z.args.to Z.requires.1 in
@@ -54,28 +54,28 @@ overflow_add-m c = search rules
 
 after_cut-p-requires : tie.Need-after_cut-p-requires
 after_cut-p-requires c κs =
-    let E = c.before.before.before.before.before.before.before.before.segment_end-e in
-    let Z = c.before.before.before.before.before.before.before.before.before.before.before in
+    let E = c.segment_end-e in
+    let Z = c in
     (omega (arith, E.ensures), λ h. rw E.ensures.2 (Z.requires.3 h))
 
 segment_end-f-requires : tie.Need-segment_end-f-requires
 segment_end-f-requires c κs =
-    let E = c.before.before.before.before.before.before.before.before.before.before.before.segment_end-e in
-    let Z = c.before.before.before.before.before.before.before.before.before.before.before.before.before.before in
+    let E = c.segment_end-e in
+    let Z = c in
     let A = Z.args in
     let in_place = after_inside A.t1.count A.at E.result A.to (omega (arith, E.ensures)) E.ensures.1 Z.requires.1 (λ h. rw E.ensures.2 (Z.requires.3 h)) in
-    (rw c.before.before.after_cut-p.ensures in_place, omega (arith, E.ensures, Z.requires.2), c.before.before.before.cut_out-2.ensures.0)
+    (rw c.after_cut-p.ensures in_place, omega (arith, E.ensures, Z.requires.2), c.cut_out-2.ensures.0)
 
 overflow_sub-e : tie.Need-overflow_sub-e
 overflow_sub-e c = search rules
 
 insert_all-requires : tie.Need-insert_all-requires
 insert_all-requires c κs =
-    let E = c.before.before.before.before.before.before.before.before.before.before.before.before.before.before.segment_end-e in
-    let Z = c.before.before.before.before.before.before.before.before.before.before.before.before.before.before.before.before.before in
+    let E = c.segment_end-e in
+    let Z = c in
     let n = Z.requires.2 in
     let h = E.ensures in
-    (c.before.before.segment_end-f.ensures.1, omega (arith, h, n), omega (arith, h, n), c.before.before.before.before.before.before.before.before.cut_out.ensures.0, (lens Z).0)
+    (c.segment_end-f.ensures.1, omega (arith, h, n), omega (arith, h, n), c.cut_out.ensures.0, (lens Z).0)
 
 overflow_sub-e-2 : tie.Need-overflow_sub-e-2
 overflow_sub-e-2 c = search rules
@@ -85,16 +85,16 @@ insert_all-requires-2 c κs = search rules
 
 returns : tie.Need-returns
 returns c =
-    let G = c.before.before.before.before.before.before.segment_end-f in
-    let Q = c.before.before.before.before.before.before.before.before.before.after_cut-p in
-    let C = c.before.before.before.before.before.before.before.before.before.before.cut_out-2 in
-    let O = c.before.before.before.before.before.before.before.before.before.before.before.before.cut_out in
-    let S = c.before.before.before.before.before.before.before.before.before.before.before.before.before.before.shift in
-    let E = c.before.before.before.before.before.before.before.before.before.before.before.before.before.before.before.before.before.before.segment_end-e in
-    let Z = c.before.before.before.before.before.before.before.before.before.before.before.before.before.before.before.before.before.before.before.before.before in
+    let G = c.segment_end-f in
+    let Q = c.after_cut-p in
+    let C = c.cut_out-2 in
+    let O = c.cut_out in
+    let S = c.shift in
+    let E = c.segment_end-e in
+    let Z = c in
     let A = Z.args in
     let T = A.t1 in
-    let N = c.before.before.before.insert_all in
+    let N = c.insert_all in
     let n = Z.requires.2 in
     moved_last T A.at E.result E.ensures.2 E.ensures.0 E.ensures.1 (omega (arith, lens Z, n)) (omega (arith, lens Z, n)) O.new.0 C.new.0 O.ensures.1 C.ensures.1
     G.result (get_or T.depth A.to 0 + 1) S.new.0 N.new.0 c.insert_all-2.new.0 S.ensures.1 N.ensures.1 c.insert_all-2.ensures.1 A.to Q.result

@@ -21,8 +21,8 @@ bounds-depth-at c = search rules
 
 shift-requires : tie.Need-shift-requires
 shift-requires c κs =
-    let E = c.before.before.before.segment_end-e in
-    let Z = c.before.before.before.before.before.before in
+    let E = c.segment_end-e in
+    let Z = c in
     let T = Z.args.t1 in
     let small = depth_fits T.count T.depth Z.requires.2 in
     (omega (arith, E.ensures), omega (arith, E.ensures, Z.requires), (lens Z).1, λ j g h. omega (arith, small j (omega (arith, E.ensures)), E.ensures, Z.requires))
@@ -54,13 +54,13 @@ insert_all-requires-2 c κs = search rules
 returns : tie.Need-returns
 returns c =
     let S = c.before.before.before.before.before.before.before.before.before.before in
-    let E = c.before.before.before.before.before.before.before.before.before.before.before.before.before.before.segment_end-e in
-    let Z = c.before.before.before.before.before.before.before.before.before.before.before.before.before.before.before.before.before in
+    let E = c.segment_end-e in
+    let Z = c in
     let A = Z.args in
     let T = A.t1 in
-    let C = c.before.before.before.before.before.before.cut_out-2 in
-    let O = c.before.before.before.before.before.before.before.before.cut_out in
-    let N = c.before.before.before.insert_all in
+    let C = c.cut_out-2 in
+    let O = c.cut_out in
+    let N = c.insert_all in
     let n = Z.requires.1 in
     moved_root T A.at E.result E.ensures.2 E.ensures.0 E.ensures.1 (omega (arith, lens Z, n)) (omega (arith, lens Z, n)) O.new.0 C.new.0 O.ensures.1 C.ensures.1
     (A.at + (T.count - E.result)) 1 S.shift.new.0 N.new.0 c.insert_all-2.new.0 S.shift.ensures.1 N.ensures.1 c.insert_all-2.ensures.1 refl refl

@@ -25,8 +25,8 @@ bounds-order-i c = search rules
 
 returns-then-order-i : tie.Need-returns-then-order-i invariant-loop-i decreases-loop-i
 returns-then-order-i c =
-    let L = c.before.before.before.loop-i in
-    let A = c.before.before.before.before.args in
+    let L = c.loop-i in
+    let A = c.args in
     let O = A.order.now in
     let len : length O ≡ 256 = search rules in
     (omega arith, sym (L.invariant.1 ∙ idx_stop A.x A.n L.i O (omega arith) (omega arith) c.if-order-i.true))
@@ -39,16 +39,16 @@ loop-i-smaller c = search rules
 
 loop-i-preserved : tie.Need-loop-i-preserved invariant-loop-i decreases-loop-i
 loop-i-preserved c =
-    let L = c.before.before.before.loop-i in
-    let A = c.before.before.before.before.args in
+    let L = c.loop-i in
+    let A = c.args in
     let O = A.order.now in
     let len : length O ≡ 256 = search rules in
     (omega arith, L.invariant.1 ∙ idx_on A.x A.n L.i O (omega arith) (omega arith) c.if-order-i.false)
 
 returns : tie.Need-returns invariant-loop-i decreases-loop-i
 returns c =
-    let L = c.before.loop-i in
-    let A = c.before.before.args in
+    let L = c.loop-i in
+    let A = c.args in
     let O = A.order.now in
     let len : length O ≡ 256 = search rules in
     (omega arith, sym (L.invariant.1 ∙ idx_end A.x A.n L.i O (omega arith) (omega arith)))

@@ -34,8 +34,8 @@ bounds-depth-e c = search rules
 
 returns-then-depth-e : tie.Need-returns-then-depth-e invariant-loop-e decreases-loop-e
 returns-then-depth-e c =
-    let L = c.before.before.before.loop-e in
-    let A = c.before.before.before.before.before.args in
+    let L = c.loop-e in
+    let A = c.args in
     let D = A.depth.now in
     let len : length D ≡ 256 = search rules in
     (omega arith, omega arith, sym (seg_from A.n A.at D (omega arith) ∙ L.invariant.2 ∙ run_stop (get_or D A.at 0) A.n L.e D (omega arith) (omega arith) (omega arith)))
@@ -48,16 +48,16 @@ loop-e-smaller c = search rules
 
 loop-e-preserved : tie.Need-loop-e-preserved invariant-loop-e decreases-loop-e
 loop-e-preserved c =
-    let L = c.before.before.before.loop-e in
-    let A = c.before.before.before.before.before.args in
+    let L = c.loop-e in
+    let A = c.args in
     let D = A.depth.now in
     let len : length D ≡ 256 = search rules in
     (omega arith, omega arith, L.invariant.2 ∙ run_on (get_or D A.at 0) A.n L.e D (omega arith) (omega arith) (omega arith))
 
 returns : tie.Need-returns invariant-loop-e decreases-loop-e
 returns c =
-    let L = c.before.loop-e in
-    let A = c.before.before.before.args in
+    let L = c.loop-e in
+    let A = c.args in
     let D = A.depth.now in
     let len : length D ≡ 256 = search rules in
     (omega arith, omega arith, sym (seg_from A.n A.at D (omega arith) ∙ L.invariant.2 ∙ run_end (get_or D A.at 0) A.n L.e D (omega arith) (omega arith)))

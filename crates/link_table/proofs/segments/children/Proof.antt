@@ -49,8 +49,8 @@ loop-i-smaller c = search rules
 
 loop-i-preserved : tie.Need-loop-i-preserved invariant-loop-i decreases-loop-i
 loop-i-preserved c =
-    let L = c.before.before.before.loop-i in
-    let A = c.before.before.before.before.args in
+    let L = c.loop-i in
+    let A = c.args in
     let X = A.order.now in
     let D = A.depth.now in
     let lx : length X ≡ 256 = search rules in
@@ -77,8 +77,8 @@ loop-i-preserved c =
 
 returns : tie.Need-returns invariant-loop-i decreases-loop-i
 returns c =
-    let L = c.before.loop-i in
-    let A = c.before.before.args in
+    let L = c.loop-i in
+    let A = c.args in
     let z : L.i ≡ A.e = omega arith in
     let all = at_depth A.k (between A.from A.e A.order.now) (between A.from A.e A.depth.now) in
     let end = level_end A.k A.e L.m A.order.now A.depth.now L.out A.out.now all (omega arith) (rw z at L.invariant.4) L.invariant.5 in

@@ -44,9 +44,9 @@ loop-j-smaller c = search rules
 
 loop-j-preserved : tie.Need-loop-j-preserved invariant-loop-j decreases-loop-j
 loop-j-preserved c =
-    let L = c.before.before.loop-j in
-    let A = c.before.before.before.args in
-    let P = c.before.before.before.requires in (
+    let L = c.loop-j in
+    let A = c.args in
+    let P = c.requires in (
       omega arith,
       search rules,
       ap (λ (d : List ℕ). set d (A.at + L.j) (get_or A.s.now (A.from + L.j) 0)) L.invariant.2
@@ -55,8 +55,8 @@ loop-j-preserved c =
 
 returns : tie.Need-returns invariant-loop-j decreases-loop-j
 returns c =
-    let L = c.before.loop-j in
-    let e : L.j ≡ c.before.before.args.k = omega arith in
+    let L = c.loop-j in
+    let e : L.j ≡ c.args.k = omega arith in
     (L.invariant.1, rw e at L.invariant.2)
 
 pub copy_over_spec : {M : Type 1} → statement M

@@ -40,8 +40,8 @@ loop-from-smaller c = search rules
 
 loop-from-preserved : tie.Need-loop-from-preserved invariant-loop-from decreases-loop-from
 loop-from-preserved c =
-    let L = c.before.before.loop-from in
-    let A = c.before.before.before.args in
+    let L = c.loop-from in
+    let A = c.args in
     let len : length A.a.now ≡ 256 = search rules in (
       omega arith,
       omega arith,
@@ -54,8 +54,8 @@ loop-from-preserved c =
 
 returns : tie.Need-returns invariant-loop-from decreases-loop-from
 returns c =
-    let L = c.before.loop-from in
-    let A = c.before.before.args in
+    let L = c.loop-from in
+    let A = c.args in
     let e : L.from ≡ A.n = omega arith in
     (L.invariant.5, rw e at L.invariant.6 ∙ close_end A.a.now A.n A.i A.j)
 

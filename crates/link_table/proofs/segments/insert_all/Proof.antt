@@ -18,9 +18,9 @@ copy_over-requires-2 c κs = search rules
 
 returns : tie.Need-returns
 returns c =
-    let C1 = c.before.before.before.copy_over in
-    let A = c.before.before.before.before.before.before.args in
-    let P = c.before.before.before.before.before.before.requires in (
+    let C1 = c.copy_over in
+    let A = c.args in
+    let P = c.requires in (
       c.copy_over-2.ensures.0,
       inserted_all A.n A.e A.k A.from A.a.now A.s.now C1.new.0 c.copy_over-2.new.0 P.0 (omega (arith, P.1, P.3)) (omega (arith, P.2, P.4))
           C1.ensures.1 c.copy_over-2.ensures.1,

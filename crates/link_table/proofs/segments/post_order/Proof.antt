@@ -48,9 +48,9 @@ loop-j-smaller c = search rules
 
 loop-j-preserved : tie.Need-loop-j-preserved invariant-loop-j decreases-loop-j
 loop-j-preserved c =
-    let L = c.before.before.before.before.before.loop-j in
-    let A = c.before.before.before.before.before.before.args in
-    let Q = c.before.before.segment_end-s in
+    let L = c.loop-j in
+    let A = c.args in
+    let Q = c.segment_end-s in
     let X = A.order.now in
     let D = A.depth.now in
     let lx : length X ≡ 256 = search rules in
@@ -65,8 +65,8 @@ loop-j-preserved c =
 
 returns : tie.Need-returns invariant-loop-j decreases-loop-j
 returns c =
-    let L = c.before.loop-j in
-    let e : L.j ≡ c.before.before.args.at = omega arith in
+    let L = c.loop-j in
+    let e : L.j ≡ c.args.at = omega arith in
     (L.invariant.2, rw e at L.invariant.3)
 
 pub post_order_spec : {M : Type 1} → statement M

@@ -25,9 +25,9 @@ bounds-a-i c = search rules
 
 rebase-requires : tie.Need-rebase-requires invariant-loop-i decreases-loop-i
 rebase-requires c κs =
-    let L = c.before.before.loop-i in
-    let A = c.before.before.before.args in
-    let P = c.before.before.before.requires in
+    let L = c.loop-i in
+    let A = c.args in
+    let P = c.requires in
     let e : get_or L.a L.i 0 ≡ get_or A.a.now L.i 0 = rw L.invariant.3 (shifted_at A.from L.i A.was A.is A.a.now (omega arith) (omega (arith, P.2))) in
     omega (arith, P.3 L.i (omega arith) (omega arith))
 
@@ -45,17 +45,17 @@ loop-i-smaller c = search rules
 
 loop-i-preserved : tie.Need-loop-i-preserved invariant-loop-i decreases-loop-i
 loop-i-preserved c =
-    let L = c.before.before.before.loop-i in
-    let A = c.before.before.before.before.args in
-    let P = c.before.before.before.before.requires in
+    let L = c.loop-i in
+    let A = c.args in
+    let P = c.requires in
     let h : L.i < length A.a.now = omega (arith, P.2) in
     let e : get_or L.a L.i 0 ≡ get_or A.a.now L.i 0 = rw L.invariant.3 (shifted_at A.from L.i A.was A.is A.a.now (omega arith) h) in
     (omega arith, omega arith, search rules, rw (c.rebase.ensures, e, L.invariant.3) (shifted_on A.from L.i A.was A.is A.a.now (omega arith) h))
 
 returns : tie.Need-returns invariant-loop-i decreases-loop-i
 returns c =
-    let L = c.before.loop-i in
-    let e : L.i ≡ c.before.before.args.to = omega arith in
+    let L = c.loop-i in
+    let e : L.i ≡ c.args.to = omega arith in
     (L.invariant.2, rw e at L.invariant.3)
 
 pub shift_spec : {M : Type 1} → statement M

@@ -12,7 +12,7 @@ put_box_in-requires c κs = search rules
 
 returns : tie.Need-returns
 unfolding put_box put_insets
-returns c = rw (c.put_box_in.ensures, c.before.new.ensures)
+returns c = rw (c.put_box_in.ensures, c.new.ensures)
 
 pub put_insets_spec : {M : Type 1} → statement M
 put_insets_spec = tie.close (tie.spec new-requires put_box_in-requires returns)

@@ -12,7 +12,7 @@ put_box_in-requires c κs = search rules
 
 returns : tie.Need-returns
 unfolding put_box put_rect
-returns c = rw (c.put_box_in.ensures, c.before.new.ensures)
+returns c = rw (c.put_box_in.ensures, c.new.ensures)
 
 pub put_rect_spec : {M : Type 1} → statement M
 put_rect_spec = tie.close (tie.spec new-requires put_box_in-requires returns)

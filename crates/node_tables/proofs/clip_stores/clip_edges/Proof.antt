@@ -15,11 +15,11 @@ enum_known-r c = search rules
 
 returns-in-None : tie.Need-returns-in-None
 unfolding edges_from of_bits of_fields odd
-returns-in-None c = rw (← c.before.before.rect.ensures, c.enum_told-1.given.1)
+returns-in-None c = rw (← c.rect.ensures, c.in-None.is)
 
 returns-in-Some : tie.Need-returns-in-Some
 unfolding edges_from of_bits of_fields odd
-returns-in-Some c = rw (← c.before.before.before.rect.ensures, c.before.r-1.given.1)
+returns-in-Some c = rw (← c.rect.ensures, c.in-Some.is)
 
 pub clip_edges_spec : {M : Type 1} → statement M
 clip_edges_spec = tie.close (tie.spec rect-requires enum_told-1 enum_known-r returns-in-None returns-in-Some)

@@ -40,10 +40,10 @@ returns c =
       c.put_box-2.ensures,
       first.put_box.ensures,
       halves_stored,
-      c.before.new-2.ensures,
-      first.before.new.ensures,
+      c.new-2.ensures,
+      first.new.ensures,
       parts.radii-q.ensures,
-      parts.before.clip_edges-r.ensures,
+      parts.clip_edges-r.ensures,
     )
 
 pub put_clip_spec : {M : Type 1} → statement M

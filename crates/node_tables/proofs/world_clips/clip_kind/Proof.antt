@@ -14,15 +14,15 @@ enum_known-c-in-Rounded-1 c = search rules
 
 returns-in-None : tie.Need-returns-in-None
 unfolding kind_of
-returns-in-None c = rw c.enum_told-1.given.1
+returns-in-None c = rw c.in-None.is
 
 returns-in-Square : tie.Need-returns-in-Square
 unfolding kind_of
-returns-in-Square c = rw c.before.c-1.given.1
+returns-in-Square c = rw c.in-Square.is
 
 returns-in-Rounded : tie.Need-returns-in-Rounded
 unfolding kind_of
-returns-in-Rounded c = rw c.before.c-in-Rounded-1.given.1
+returns-in-Rounded c = rw c.in-Rounded.is
 
 pub clip_kind_spec : {M : Type 1} → statement M
 clip_kind_spec =

@@ -8,7 +8,7 @@ rect_at-requires c κs = search rules
 
 returns-then-there : tie.Need-returns-then-there
 unfolding clip_rect_at
-returns-then-there c = rw (c.before.if-there.true, c.rect_at.ensures)
+returns-then-there c = rw (c.if-there.true, c.rect_at.ensures)
 
 returns : tie.Need-returns
 unfolding clip_rect_at

@@ -11,11 +11,11 @@ enum_known-c c = search rules
 
 returns-in-None : tie.Need-returns-in-None
 unfolding is_there
-returns-in-None c = rw c.enum_told-1.given.1
+returns-in-None c = rw c.in-None.is
 
 returns-in-Some : tie.Need-returns-in-Some
 unfolding is_there
-returns-in-Some c = rw c.before.c-1.given.1
+returns-in-Some c = rw c.in-Some.is
 
 pub has_clip_rect_spec : {M : Type 1} → statement M
 has_clip_rect_spec = tie.close (tie.spec enum_told-1 enum_known-c returns-in-None returns-in-Some)

@@ -14,11 +14,11 @@ enum_told-1 c = search rules
 
 returns-in-Some : tie.Need-returns-in-Some
 unfolding put_clip_rect
-returns-in-Some c = rw c.before.before.before.c-1.given.1 c.put_rect.ensures
+returns-in-Some c = rw c.in-Some.is c.put_rect.ensures
 
 returns-in_default : tie.Need-returns-in_default
 unfolding put_clip_rect
-returns-in_default c = rw c.enum_told-1.given.1
+returns-in_default c = rw c.in_default.is
 
 pub put_clip_rect_spec : {M : Type 1} → statement M
 put_clip_rect_spec =

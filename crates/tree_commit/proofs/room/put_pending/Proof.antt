@@ -16,9 +16,9 @@ abbrev decreases-loop-i : tie.decreases-loop-i
 decreases-loop-i rects count room₀ m i₀ room i = 4 * count - i
 
 -- the room is as long as it was
-long : (c : tie.At-loop-i invariant-loop-i decreases-loop-i) → length c.loop-i.room ≡ length c.before.args.room.now
+long : (c : tie.At-loop-i invariant-loop-i decreases-loop-i) → length c.loop-i.room ≡ length c.args.room.now
 long c =
-    let A = c.before.args in
+    let A = c.args in
     let I = c.loop-i.invariant in
     ap length I.5 ∙ copy_length A.rects.now A.room.now c.loop-i.i (omega arith) (omega arith)
 
@@ -48,8 +48,8 @@ loop-i-smaller c = omega arith
 
 loop-i-preserved : tie.Need-loop-i-preserved invariant-loop-i decreases-loop-i
 loop-i-preserved c =
-    let A = c.before.before.before.args in
-    let L = c.before.before.loop-i in
+    let A = c.args in
+    let L = c.loop-i in
     (omega arith, L.invariant.1, L.invariant.2, L.invariant.3, L.invariant.4, rw L.invariant.5 (copy_next A.rects.now A.room.now L.i _ (omega arith) (omega arith)))
 
 shape_of-room : tie.Need-shape_of-room invariant-loop-i decreases-loop-i
@@ -57,8 +57,8 @@ shape_of-room c = long c.before
 
 returns : tie.Need-returns invariant-loop-i decreases-loop-i
 returns c =
-    let A = c.before.before.args in
-    let L = c.before.loop-i in
+    let A = c.args in
+    let L = c.loop-i in
     let e : L.i ≡ 4 * A.count = omega arith in
     L.invariant.5 ∙ rw e (copied A.rects.now A.room.now A.count (omega arith))
 

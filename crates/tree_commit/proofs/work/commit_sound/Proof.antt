@@ -22,7 +22,7 @@ use Rattle.tree_commit.proofs.work.commit_sound.Tie as tie
 
 -- from each call back to the one before
 abbrev begins : tie.After-needs-need → tie.Start
-begins c = c.before.before.before.before.before.before.before.before.before.before.before.before.before.before.before.before.before.before.before.before.before.before.before.before.before.before.before.before.before.before.before
+begins c = c
 
 abbrev from_pending : tie.After-put_pending → tie.Else-not-need
 from_pending c = c.before.before.before.before
@@ -48,7 +48,7 @@ pending_count S = sym (length_rects S.args.t.pending.rects S.args.t.pending.coun
 
 needs-need-requires : tie.Need-needs-need-requires
 needs-need-requires c κs =
-    let S = c.before.before.before.before.before.before.before.before.before.before.before.before.before.before.before.before.before.before.before.before.before.before.before.before.before.before.before.before.before.before in
+    let S = c in
     let t = S.args.t in
     let z = sized t (whole_here S) in
     let p = sound_places t z S.requires.0 in
@@ -87,7 +87,7 @@ rework_all-r-requires c κs =
     let S = begins (from_pending D).before in
     let t = S.args.t in
     let W = whole_here S in
-    let E = P.positions-n.ensures in (
+    let E = P.positions.ensures in (
       positions_few t _ _ _ E.0 E.1,
       E.0.0,
       W.links.order,

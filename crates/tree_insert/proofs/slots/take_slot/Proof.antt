@@ -24,7 +24,7 @@ frees_after-requires c κs = search rules
 returns : tie.Need-returns
 returns c =
     let Z = c.before.before.before in
-    slot_taken Z.args.t1 Z.args.id c.before.used_after.result c.frees_after.result Z.requires.2 c.before.used_after.ensures c.frees_after.ensures
+    slot_taken Z.args.t1 Z.args.id c.used_after.result c.frees_after.result Z.requires.2 c.used_after.ensures c.frees_after.ensures
 
 pub take_slot_spec : {M : Type 1} → statement M
 take_slot_spec =

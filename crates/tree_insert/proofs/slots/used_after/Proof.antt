@@ -7,10 +7,10 @@ overflow_add-result : tie.Need-overflow_add-result
 overflow_add-result c = search rules
 
 returns-then-frees-eq0 : tie.Need-returns-then-frees-eq0
-returns-then-frees-eq0 c = rw (eq-eqb c.before.args.frees 0 c.if-frees-eq0.true)
+returns-then-frees-eq0 c = rw (eq-eqb c.args.frees 0 c.if-frees-eq0.true)
 
 returns-else-frees-eq0 : tie.Need-returns-else-frees-eq0
-returns-else-frees-eq0 c = rw (ne_eqb c.before.args.frees 0 c.if-frees-eq0.false)
+returns-else-frees-eq0 c = rw (ne_eqb c.args.frees 0 c.if-frees-eq0.false)
 
 pub used_after_spec : {M : Type 1} → statement M
 used_after_spec = tie.close (tie.spec overflow_add-result returns-then-frees-eq0 returns-else-frees-eq0)

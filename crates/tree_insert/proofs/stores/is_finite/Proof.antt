@@ -17,7 +17,7 @@ is_finite-requires-4 c κs = search rules
 
 returns : tie.Need-returns
 unfolding finite_local
-returns c = rw (c.is_finite-4.ensures, c.before.is_finite-3.ensures, c.before.before.is_finite-2.ensures, c.before.before.before.is_finite.ensures)
+returns c = rw (c.is_finite-4.ensures, c.is_finite-3.ensures, c.is_finite-2.ensures, c.is_finite.ensures)
 
 pub is_finite_spec : {M : Type 1} → statement M
 is_finite_spec =

@@ -12,11 +12,11 @@ use Rattle.tree_insert.proofs.verdict.test.Tie as tie
 
 -- before the tables are lent
 abbrev start : tie.After-sound_tables-sound → tie.Start
-start c = c.before.before.before.before.before.before.before.before.before.before.before.before.before.before.before.before.before.before.before.before.before.before.before.before.before
+start c = c
 
 sound_tables-sound-requires : tie.Need-sound_tables-sound-requires
 sound_tables-sound-requires c κs =
-    let s = c.before.before.before.before.before.before.before.before.before.before.before.before.before.before.before.before.before.before.before.before.before.before.before.before in
+    let s = c in
     let l = sized s.args.t1 s.well_formed.0 in
     (l.order, l.depth, l.free, l.mark, l.entries_free, l.dirty)
 
@@ -25,7 +25,7 @@ check-held-requires c κs = search rules
 
 -- the first test is `held`
 told : (c : tie.After-check-held) → c.check-held.result ≡ held (start c.before).args.t1
-told c = c.check-held.ensures ∙ ap (λ (b : Bool). checked is.Accepted b no.Unsound) (c.before.sound_tables-sound.ensures (start c.before).args.t1)
+told c = c.check-held.ensures ∙ ap (λ (b : Bool). checked is.Accepted b no.Unsound) (c.sound_tables-sound.ensures (start c.before).args.t1)
 
 of_parent-linked-requires : tie.Need-of_parent-linked-requires
 of_parent-linked-requires c κs =
@@ -56,7 +56,7 @@ returns c =
     let p = f.before.before in
     let h = p.before.before.before.before in
     let A = (start h.before).args in
-    rw (c.check.ensures, k.check-known.ensures, k.before.is_Known.ensures, f.check-finite.ensures, f.before.is_finite.ensures, p.of_parent-linked.ensures, told h, parent_in_lem A.t1 A.parent)
+    rw (c.check.ensures, k.check-known.ensures, k.is_Known.ensures, f.check-finite.ensures, f.is_finite.ensures, p.of_parent-linked.ensures, told h, parent_in_lem A.t1 A.parent)
 
 pub test_spec : {M : Type 1} → statement M
 test_spec =

@@ -11,14 +11,14 @@ use Rattle.tree_links.proofs.children.put_children.Tie as tie
 
 position-at-requires : tie.Need-position-at-requires
 position-at-requires c κs =
-    let s = c.before.before.before in
+    let s = c in
     let t = s.args.t1 in
     find_needs t (sized t s.well_formed.0) s.requires.0 s.args.x s.requires.1
 
 -- ---- ways back
 
 abbrev from_position : tie.After-position-at → tie.Start
-from_position c = c.before.before.before.before
+from_position c = c
 
 abbrev from_end : tie.After-segment_end-e → tie.After-position-at
 from_end c = c.before.before.before
@@ -74,10 +74,10 @@ put_ids-requires c κs =
     let t = s.args.t1 in
     let g = sound_places t (sized t s.good.0) s.pre.0 in
     let l = below_low t s.args.x p.position.result e.segment-end.result d.depth_at_lem.result p.position.ensures.1 e.segment-end.ensures.2 d.depth_at_lem.ensures t.links.count g.2 e.segment-end.ensures.1 in (
-      omega (arith, k.children-m.ensures.1.0, e.segment-end.ensures.1, (inside p).1),
-      k.children-m.ensures.0.0,
+      omega (arith, k.children.ensures.1.0, e.segment-end.ensures.1, (inside p).1),
+      k.children.ensures.0.0,
       s.pre.2,
-      found_lows (below t s.args.x p.position.result e.segment-end.result d.depth_at_lem.result p.position.ensures.1 e.segment-end.ensures.2 d.depth_at_lem.ensures) _ k.children-m.result k.children-m.new.1.1.1.1.1.0 k.children-m.ensures.1.1 k.children-m.ensures.0.1 l,
+      found_lows (below t s.args.x p.position.result e.segment-end.result d.depth_at_lem.result p.position.ensures.1 e.segment-end.ensures.2 d.depth_at_lem.ensures) _ k.children.result k.children.new.1.1.1.1.1.0 k.children.ensures.1.1 k.children.ensures.0.1 l,
     )
 
 shape_of-room : tie.Need-shape_of-room
@@ -85,13 +85,13 @@ shape_of-room c = search rules
 
 returns : tie.Need-returns
 returns c =
-    let P = c.before.before.put_ids in
+    let P = c.put_ids in
     let k = c.before.before.before.before.before.before.before in
     let d = from_children k in
     let e = from_depth d in
     let p = from_end e in
     let s = from_position p in
-    put_done s.args.t1 s.args.x p.position.result e.segment-end.result d.depth_at_lem.result p.position.ensures.1 e.segment-end.ensures.2 d.depth_at_lem.ensures s.args.room.now P.new.1.1.1.0 k.children-m.new.1.1.1.1.1.0 _ k.children-m.result k.children-m.ensures.1.1 k.children-m.ensures.0.1 P.ensures
+    put_done s.args.t1 s.args.x p.position.result e.segment-end.result d.depth_at_lem.result p.position.ensures.1 e.segment-end.ensures.2 d.depth_at_lem.ensures s.args.room.now P.new.1.1.1.0 k.children.new.1.1.1.1.1.0 _ k.children.result k.children.ensures.1.1 k.children.ensures.0.1 P.ensures
 
 pub put_children_spec : {M : Type 1} → statement M
 put_children_spec =

@@ -25,31 +25,31 @@ offset_bounds-slots-i : tie.Need-offset_bounds-slots-i invariant-loop-i decrease
 offset_bounds-slots-i c = search rules
 
 bounds-slots-i : tie.Need-bounds-slots-i invariant-loop-i decreases-loop-i
-bounds-slots-i c = omega (arith, c.loop-i-test.true, c.before.loop-i.invariant.1)
+bounds-slots-i c = omega (arith, c.loop-i-test.true, c.loop-i.invariant.1)
 
 id_of-id-requires : tie.Need-id_of-id-requires invariant-loop-i decreases-loop-i
-id_of-id-requires c κs = let b = c.before in b.before.loop-i.invariant.5 b.before.loop-i.i b.loop-i-test.true
+id_of-id-requires c κs = let b = c.before in b.loop-i.invariant.5 b.loop-i.i b.loop-i-test.true
 
 put_id-requires : tie.Need-put_id-requires invariant-loop-i decreases-loop-i
 put_id-requires c κs =
     let b = c.before.before.before in
-    let I = b.before.loop-i.invariant in
+    let I = b.loop-i.invariant in
     (omega (arith, b.loop-i-test.true, I.1), omega (arith, b.loop-i-test.true, I.1, I.3, I.4))
 
 overflow_add-i : tie.Need-overflow_add-i invariant-loop-i decreases-loop-i
-overflow_add-i c = let b = c.before.before.before.before.before.before in let h = b.loop-i-test.true in let k = b.before.loop-i.invariant.1 in search rules
+overflow_add-i c = let b = c.before.before.before.before.before.before in let h = b.loop-i-test.true in let k = b.loop-i.invariant.1 in search rules
 
 loop-i-smaller : tie.Need-loop-i-smaller invariant-loop-i decreases-loop-i
-loop-i-smaller c = omega (arith, c.before.before.before.before.before.before.loop-i-test.true)
+loop-i-smaller c = omega (arith, c.loop-i-test.true)
 
 loop-i-preserved : tie.Need-loop-i-preserved invariant-loop-i decreases-loop-i
 loop-i-preserved c =
-    let P = c.before.before.put_id in
-    let d = c.before.before.before.before.id_of-id in
+    let P = c.put_id in
+    let d = c.id_of-id in
     let b = c.before.before.before.before.before.before in
-    let L = b.before.loop-i in
+    let L = b.loop-i in
     let I = L.invariant in
-    let A = b.before.before.before.args in
+    let A = b.args in
     let k = b.loop-i-test.true in (
       omega (arith, k),
       I.1,
@@ -61,12 +61,12 @@ loop-i-preserved c =
     )
 
 shape_of-room : tie.Need-shape_of-room invariant-loop-i decreases-loop-i
-shape_of-room c = c.before.loop-i.invariant.4
+shape_of-room c = c.loop-i.invariant.4
 
 returns : tie.Need-returns invariant-loop-i decreases-loop-i
 returns c =
-    let L = c.before.loop-i in
-    let A = c.before.before.before.args in
+    let L = c.loop-i in
+    let A = c.args in
     let e : L.i ≡ A.n = omega (arith, L.invariant.0, c.loop-i-test.false) in
     rw e at L.invariant.6
 

@@ -56,45 +56,45 @@ loop-k-init c =
     (omega arith, refl, listing_none (id_of t) (takes t s.args.asked c.as_given-given.result) s.args.room.now)
 
 takes-take-requires : tie.Need-takes-take-requires invariant-loop-k decreases-loop-k
-takes-take-requires c κs = let p = c.before.before.before.before.requires in (omega (arith, c.loop-k-test.true, p.1), p.0)
+takes-take-requires c κs = let p = c.requires in (omega (arith, c.loop-k-test.true, p.1), p.0)
 
 id_at-id-requires : tie.Need-id_at-id-requires invariant-loop-k decreases-loop-k
-id_at-id-requires c κs = omega (arith, c.before.loop-k-test.true, c.before.before.before.before.before.requires.1)
+id_at-id-requires c κs = omega (arith, c.loop-k-test.true, c.requires.1)
 
 push_id-n-requires : tie.Need-push_id-n-requires invariant-loop-k decreases-loop-k
 push_id-n-requires c κs =
     let T = c.before.before in
     let l = T.before in
-    let L = l.before.loop-k in
+    let L = l.loop-k in
     let s = l.before.before.before.before in
     let A = s.args in
     let t = tree s fresh_tree in
-    let g = l.before.before.as_given-given.result in
+    let g = l.as_given-given.result in
     let k : L.k < 512 = omega (arith, l.loop-k-test.true, s.requires.1) in
-    let take : T.takes-take.result ≡ true → (L.n < 256) × (c.before.id_at-id.result.0 < 256) =
+    let take : T.takes-take.result ≡ true → (L.n < 256) × (c.id_at-id.result.0 < 256) =
     λ e. let p : takes t A.asked g L.k ≡ true = sym T.takes-take.ensures ∙ e in (
       omega (arith, L.invariant.2.many, slots_more (id_of t) (takes t A.asked g) A.room.now L.k p, taken_few t A.asked g s.requires.0 (L.k + 1) (omega arith)),
-      rw c.before.id_at-id.ensures (taken_low t A.asked g s.requires.0 L.k k p),
+      rw c.id_at-id.ensures (taken_low t A.asked g s.requires.0 L.k k p),
     ) in
     (take, omega (arith, s.requires.3, L.invariant.1))
 
 overflow_add-k : tie.Need-overflow_add-k invariant-loop-k decreases-loop-k
-overflow_add-k c = let l = c.before.before.before.before.before.before in omega (arith, l.loop-k-test.true, l.before.before.before.before.requires.1)
+overflow_add-k c = let l = c.before.before.before.before.before.before in omega (arith, l.loop-k-test.true, l.requires.1)
 
 loop-k-smaller : tie.Need-loop-k-smaller invariant-loop-k decreases-loop-k
-loop-k-smaller c = omega (arith, c.before.before.before.before.before.before.loop-k-test.true)
+loop-k-smaller c = omega (arith, c.loop-k-test.true)
 
 loop-k-preserved : tie.Need-loop-k-preserved invariant-loop-k decreases-loop-k
 loop-k-preserved c =
-    let P = c.before.before.push_id-n in
-    let I = c.before.before.before.before.id_at-id in
+    let P = c.push_id-n in
+    let I = c.id_at-id in
     let T = c.before.before.before.before.before in
     let l = T.before in
-    let L = l.before.loop-k in
+    let L = l.loop-k in
     let s = l.before.before.before.before in
     let A = s.args in
     let t = tree s fresh_tree in
-    let g = l.before.before.as_given-given.result in
+    let g = l.as_given-given.result in
     let k : L.k < 512 = omega (arith, l.loop-k-test.true, s.requires.1) in
     let E = rw I.ensures at P.ensures.0 in (
       omega (arith, l.loop-k-test.true),
@@ -103,15 +103,15 @@ loop-k-preserved c =
     )
 
 shape_of-room : tie.Need-shape_of-room invariant-loop-k decreases-loop-k
-shape_of-room c = c.before.loop-k.invariant.1
+shape_of-room c = c.loop-k.invariant.1
 
 returns : tie.Need-returns invariant-loop-k decreases-loop-k
 returns c =
     λ t.
-    let L = c.before.loop-k in
+    let L = c.loop-k in
     let s = c.before.before.before.before in
     let A = s.args in
-    let g = c.before.before.as_given-given in
+    let g = c.as_given-given in
     let T = tree s t in
     let p = takes T A.asked g.result in
     let e : L.k ≡ A.used = omega (arith, L.invariant.0, c.loop-k-test.false) in

@@ -21,28 +21,28 @@ overflow_cast-x : tie.Need-overflow_cast-x
 overflow_cast-x c = search rules
 
 -- an accepted node's slot is one of the tables'
-low : (e : tie.In-Accepted) → e.before.before.before.args.id.0 < 256
+low : (e : tie.In-Accepted) → e.args.id.0 < 256
 low e =
-    let n = e.before.before in
+    let n = e.before in
     let s = n.before in
-    (node_accepted s.args.t1 (sized s.args.t1 s.well_formed.0) s.args.id (sym n.of_node.ensures ∙ e.enum_told-1.given.1)).slot_low
+    (node_accepted s.args.t1 (sized s.args.t1 s.well_formed.0) s.args.id (sym n.of_node.ensures ∙ e.in-Accepted.is)).slot_low
 
 byte_at-kind-requires : tie.Need-byte_at-kind-requires
-byte_at-kind-requires c κs = low c.before.before.before
+byte_at-kind-requires c κs = low c
 
 clip_at-requires : tie.Need-clip_at-requires
-clip_at-requires c κs = low c.before.before.before.before.before.before
+clip_at-requires c κs = low c.before.before.before.before.before
 
 returns-in-Refused : tie.Need-returns-in-Refused
 unfolding clip_if
-returns-in-Refused c = let n = c.before.before.before in rw (← n.of_node.ensures, c.before.r-1.given.1)
+returns-in-Refused c = let n = c.before in rw (← n.of_node.ensures, c.in-Refused.is)
 
 returns-in-Accepted : tie.Need-returns-in-Accepted
 unfolding clip_if local_at
 returns-in-Accepted c =
     let b = c.before.before.before in
-    let e = b.before.before.before.before in
-    rw (← e.before.before.of_node.ensures, e.enum_told-1.given.1, c.clip_at.ensures, b.byte_at-kind.ensures)
+    let e = b.before.before.before in
+    rw (← e.of_node.ensures, e.in-Accepted.is, c.clip_at.ensures, b.byte_at-kind.ensures)
 
 pub local_clip_spec : {M : Type 1} → statement M
 local_clip_spec =

@@ -20,21 +20,21 @@ enum_told-in_default c = search rules
 
 returns-in_default : tie.Need-returns-in_default
 returns-in_default c =
-    let n = c.before.before in
-    let A = n.before.args in
-    checked_stopped (of_node A.t A.id) n.of_node-v.result (not (needs_commit A.t)) no.NeedsCommit c.enum_told-in_default-1.given.0.0 n.of_node-v.ensures c.enum_told-in_default-1.given.1
+    let n = c.before in
+    let A = n.args in
+    checked_stopped (of_node A.t A.id) n.of_node-v.result (not (needs_commit A.t)) no.NeedsCommit c.in_default.field-0 n.of_node-v.ensures c.in_default.is
 
 needs_commit-need-requires : tie.Need-needs_commit-need-requires
 needs_commit-need-requires c κs =
-    let n = c.before.before in
+    let n = c.before in
     let s = n.before in
-    (node_accepted s.args.t (sized s.args.t s.well_formed.0) s.args.id (sym n.of_node-v.ensures ∙ c.enum_told-1.given.1)).whole.test
+    (node_accepted s.args.t (sized s.args.t s.well_formed.0) s.args.id (sym n.of_node-v.ensures ∙ c.in-Accepted.is)).whole.test
 
 check-requires : tie.Need-check-requires
 check-requires c κs = search rules
 
 returns : tie.Need-returns
-returns c = rw (c.check.ensures, c.before.needs_commit-need.ensures, ← c.before.before.before.before.of_node-v.ensures)
+returns c = rw (c.check.ensures, c.needs_commit-need.ensures, ← c.of_node-v.ensures)
 
 pub of_world_spec : {M : Type 1} → statement M
 of_world_spec = tie.close (tie.spec of_node-v-requires enum_told-1 enum_told-in_default returns-in_default needs_commit-need-requires check-requires returns)

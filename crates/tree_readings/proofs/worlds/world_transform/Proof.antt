@@ -24,19 +24,19 @@ overflow_cast-id c = search rules
 
 affine_at-requires : tie.Need-affine_at-requires
 affine_at-requires c κs =
-    let e = c.before.before.before in
+    let e = c in
     let n = e.before.before in
-    let s = n.before in
-    let told = sym n.of_world.ensures ∙ e.enum_told-1.given.1 in
+    let s = n in
+    let told = sym n.of_world.ensures ∙ e.in-Accepted.is in
     (node_accepted s.args.t1 (sized s.args.t1 s.well_formed.0) s.args.id (checked_accepted (of_node s.args.t1 s.args.id) (not (needs_commit s.args.t1)) no.NeedsCommit told).0).slot_low
 
 returns-in-Refused : tie.Need-returns-in-Refused
 unfolding transform_if
-returns-in-Refused c = let n = c.before.before.before in rw (← n.of_world.ensures, c.before.r-1.given.1)
+returns-in-Refused c = let n = c.before in rw (← n.of_world.ensures, c.in-Refused.is)
 
 returns-in-Accepted : tie.Need-returns-in-Accepted
 unfolding transform_if
-returns-in-Accepted c = let e = c.before.before.before.before in rw (← e.before.before.of_world.ensures, e.enum_told-1.given.1, c.affine_at.ensures)
+returns-in-Accepted c = let e = c in rw (← e.of_world.ensures, e.in-Accepted.is, c.affine_at.ensures)
 
 pub world_transform_spec : {M : Type 1} → statement M
 world_transform_spec =

@@ -77,10 +77,10 @@ loop-i-init : tie.Need-loop-i-init invariant-loop-i decreases-loop-i
 loop-i-init c = inv_first (stays c) c.args.gone.now c.args.n (entry c) c.requires.0 c.requires.1 c.requires.2
 
 offset_bounds-gone-i : tie.Need-offset_bounds-gone-i invariant-loop-i decreases-loop-i
-offset_bounds-gone-i c = omega (arith, c.before.loop-i.invariant.n_fits, c.loop-i-test.true)
+offset_bounds-gone-i c = omega (arith, c.loop-i.invariant.n_fits, c.loop-i-test.true)
 
 bounds-gone-i : tie.Need-bounds-gone-i invariant-loop-i decreases-loop-i
-bounds-gone-i c = omega (arith, c.before.loop-i.invariant.n_fits, c.loop-i-test.true)
+bounds-gone-i c = omega (arith, c.loop-i.invariant.n_fits, c.loop-i-test.true)
 
 overflow_cast-x : tie.Need-overflow_cast-x invariant-loop-i decreases-loop-i
 overflow_cast-x c =
@@ -98,7 +98,7 @@ push_damage_rect-p-requires : tie.Need-push_damage_rect-p-requires invariant-loo
 push_damage_rect-p-requires c κs =
     let k = c.before.before.before in
     let Z = k.before.before in
-    λ h. box_room (stays Z) (entry Z) _ (cur k.before) _ _ (turn k) (ap has_area (sym c.before.rect_at-b.ensures) ∙ h)
+    λ h. box_room (stays Z) (entry Z) _ (cur k.before) _ _ (turn k) (ap has_area (sym c.rect_at-b.ensures) ∙ h)
 
 bounds-committed-x : tie.Need-bounds-committed-x invariant-loop-i decreases-loop-i
 bounds-committed-x c =

@@ -9,20 +9,20 @@ has_area-requires : tie.Need-has_area-requires
 has_area-requires c κs = search rules
 
 put_rect-requires : tie.Need-put_rect-requires
-put_rect-requires c κs = c.before.before.before.requires (sym c.before.before.has_area.ensures ∙ c.before.if-has_area.true)
+put_rect-requires c κs = c.requires (sym c.has_area.ensures ∙ c.if-has_area.true)
 
 overflow_add-result : tie.Need-overflow_add-result
-overflow_add-result c = omega (arith, c.before.before.before.before.requires (sym c.before.before.before.has_area.ensures ∙ c.before.before.if-has_area.true))
+overflow_add-result c = omega (arith, c.requires (sym c.has_area.ensures ∙ c.if-has_area.true))
 
 returns-then-has_area : tie.Need-returns-then-has_area
 returns-then-has_area c =
-    let A = c.before.before.before.before.args in
-    pushed A.rects.now A.count A.r c.put_rect.new.0 c.put_rect.ensures (sym c.before.before.before.has_area.ensures ∙ c.before.before.if-has_area.true)
+    let A = c.args in
+    pushed A.rects.now A.count A.r c.put_rect.new.0 c.put_rect.ensures (sym c.has_area.ensures ∙ c.if-has_area.true)
 
 returns : tie.Need-returns
 returns c =
-    let A = c.before.before.args in
-    not_pushed A.rects.now A.count A.r (sym c.before.has_area.ensures ∙ c.if-has_area.false)
+    let A = c.args in
+    not_pushed A.rects.now A.count A.r (sym c.has_area.ensures ∙ c.if-has_area.false)
 
 pub push_damage_rect_spec : {M : Type 1} → statement M
 push_damage_rect_spec =

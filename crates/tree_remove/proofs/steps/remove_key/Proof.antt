@@ -10,22 +10,22 @@ use Rattle.tree_remove.proofs.steps.remove_key.Tie as tie
 
 returns-then-not-committed : tie.Need-returns-then-not-committed
 returns-then-not-committed c =
-    let A = c.before.args in
+    let A = c.args in
     none_removed A.committed A.key.0 A.mark.now A.free.now A.dirty.now A.frees A.queued (not-true A.committed c.if-not-committed.true)
 
-committed_is : (c : tie.Else-not-committed) → c.before.args.committed ≡ true
-committed_is c = not-false c.before.args.committed c.if-not-committed.false
+committed_is : (c : tie.Else-not-committed) → c.args.committed ≡ true
+committed_is c = not-false c.args.committed c.if-not-committed.false
 
-owned : (c : tie.Else-not-committed) → let A = c.before.args in Owned A.generation.now A.mark.now A.dirty.now A.queued A.key
-owned c = c.before.requires.2 (committed_is c)
+owned : (c : tie.Else-not-committed) → let A = c.args in Owned A.generation.now A.mark.now A.dirty.now A.queued A.key
+owned c = c.requires.2 (committed_is c)
 
 -- the entry that is found has no mark
-unmarked_here : (c : tie.In-Live-2) → c.found-1.given.0.0.mark ≡ is.Unmarked
+unmarked_here : (c : tie.In-Live-2) → c.in-Live.e.mark ≡ is.Unmarked
 unmarked_here c =
-    let k = c.before.before in
+    let k = c.before in
     let z = k.before.before in
-    let A = z.before.args in
-    found_unmarked A.generation.now A.mark.now A.dirty.now A.queued A.key (owned z) A.payload.now A.aabb.now A.kept.now A.prev.now c.found-1.given.0.0 (sym k.look_up-found.ensures ∙ c.found-1.given.1)
+    let A = z.args in
+    found_unmarked A.generation.now A.mark.now A.dirty.now A.queued A.key (owned z) A.payload.now A.aabb.now A.kept.now A.prev.now c.in-Live.e (sym k.look_up-found.ensures ∙ c.in-Live.is)
 
 look_up-found-requires : tie.Need-look_up-found-requires
 look_up-found-requires c κs = search rules
@@ -38,26 +38,26 @@ enum_told-1 c = search rules
 
 returns-in_default : tie.Need-returns-in_default
 returns-in_default c =
-    let k = c.before.before in
+    let k = c.before in
     let z = k.before.before in
-    let A = z.before.args in
-    absurd (never_dead A.generation.now A.mark.now A.dirty.now A.queued A.key (owned z) A.payload.now A.aabb.now A.kept.now A.prev.now (sym k.look_up-found.ensures ∙ c.enum_told-1.given.1))
+    let A = z.args in
+    absurd (never_dead A.generation.now A.mark.now A.dirty.now A.queued A.key (owned z) A.payload.now A.aabb.now A.kept.now A.prev.now (sym k.look_up-found.ensures ∙ c.in_default.is))
 
 remove_entry-requires : tie.Need-remove_entry-requires
 remove_entry-requires c κs =
-    let d = c.before.before.before.before in
-    let z = d.before.before.before.before in
-    let P = z.before.requires in
+    let d = c in
+    let z = d in
+    let P = z.requires in
     let O = owned z in
-    (O.low, P.0, P.1, O.room, λ a. absurd (not_added d.found-1.given.0.0.mark (unmarked_here d) a))
+    (O.low, P.0, P.1, O.room, λ a. absurd (not_added d.in-Live.e.mark (unmarked_here d) a))
 
 returns : tie.Need-returns
 returns c =
-    let d = c.before.before.before.before.before in
+    let d = c in
     let z = d.before.before.before.before in
-    let A = z.before.args in
+    let A = z.args in
     let T = c.remove_entry.ensures in
-    removed A.committed A.key.0 A.mark.now A.free.now A.dirty.now A.frees A.queued d.found-1.given.0.0.mark
+    removed A.committed A.key.0 A.mark.now A.free.now A.dirty.now A.frees A.queued d.in-Live.e.mark
     c.remove_entry.new.0 c.remove_entry.new.1.0 c.remove_entry.new.1.1.0 c.remove_entry.result.frees c.remove_entry.result.queued
     (committed_is z) (unmarked_here d) T.0 T.1.0 T.1.1.0 T.1.1.1.0 T.1.1.1.1
 

@@ -8,11 +8,11 @@ use Rattle.tree_rework.proofs.boxes.push_area.Statement.{statement}
 use Rattle.tree_rework.proofs.boxes.push_area.Tie as tie
 
 -- what the test tells of the rectangle
-taken : (c : tie.Then-changed-has_area) → shown c.before.before.before.args.changed c.before.before.before.args.r ≡ c.before.before.before.args.r ∷ []
-taken c = shown_yes c.before.before.before.args.changed c.before.before.before.args.r (rw (← c.before.has_area.ensures) c.if-changed-has_area.true)
+taken : (c : tie.Then-changed-has_area) → shown c.args.changed c.args.r ≡ c.args.r ∷ []
+taken c = shown_yes c.args.changed c.args.r (rw (← c.has_area.ensures) c.if-changed-has_area.true)
 
-left : (c : tie.Else-changed-has_area) → shown c.before.before.before.args.changed c.before.before.before.args.r ≡ []
-left c = shown_no c.before.before.before.args.changed c.before.before.before.args.r (rw (← c.before.has_area.ensures) c.if-changed-has_area.false)
+left : (c : tie.Else-changed-has_area) → shown c.args.changed c.args.r ≡ []
+left c = shown_no c.args.changed c.args.r (rw (← c.has_area.ensures) c.if-changed-has_area.false)
 
 has_area-requires : tie.Need-has_area-requires
 has_area-requires c κs = search rules
@@ -32,7 +32,7 @@ shape_of-room-then-changed-has_area c = search rules
 returns-then-changed-has_area : tie.Need-returns-then-changed-has_area
 returns-then-changed-has_area c =
     let S = c.before.before.before.before.before.before.before in
-    rw (taken c.before.before.before.before) (c.before.before.put_rect_in.ensures ∙ laid_one S.args.room.now S.args.n S.args.r, omega arith)
+    rw (taken c.before.before.before.before) (c.put_rect_in.ensures ∙ laid_one S.args.room.now S.args.n S.args.r, omega arith)
 
 returns : tie.Need-returns
 returns c =

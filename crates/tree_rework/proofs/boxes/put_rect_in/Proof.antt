@@ -15,7 +15,7 @@ shape_of-room c = search rules
 
 returns : tie.Need-returns
 unfolding put_box put_rect
-returns c = rw (c.before.before.put_box_in.ensures, c.before.before.before.new.ensures)
+returns c = rw (c.put_box_in.ensures, c.new.ensures)
 
 pub put_rect_in_spec : {M : Type 1} → statement M
 put_rect_in_spec = tie.close (tie.spec new-requires put_box_in-requires shape_of-room returns)

@@ -27,10 +27,10 @@ abbrev keys_of : tie.Start → Keys
 keys_of c = lent.keys c.args.committed.now c.args.slot.now c.args.keys_generation.now
 
 -- what the test tells
-is_new : (c : tie.Then-not-committed-x) → get_or c.before.before.args.committed.now c.before.before.args.x false ≡ false
+is_new : (c : tie.Then-not-committed-x) → get_or c.args.committed.now c.args.x false ≡ false
 is_new c = not-true _ c.if-not-committed-x.true
 
-is_old : (c : tie.Else-not-committed-x) → get_or c.before.before.args.committed.now c.before.before.args.x false ≡ true
+is_old : (c : tie.Else-not-committed-x) → get_or c.args.committed.now c.args.x false ≡ true
 is_old c = not-false _ c.if-not-committed-x.false
 
 bounds-committed-x : tie.Need-bounds-committed-x
@@ -108,19 +108,19 @@ enum_told-1 c = search rules
 
 returns-in_default : tie.Need-returns-in_default
 returns-in_default c =
-    let S = c.before.before.before.before.before.before.before.before.before.before.before.before.before.before in
+    let S = c in
     let A = S.args in
-    let dead = look_dead A.index_generation.now A.mark.now A.payload.now A.aabb.now A.kept.now A.prev.now (key A.slot.now A.keys_generation.now A.x) (sym c.before.before.look_up-found.ensures ∙ c.enum_told-1.given.1) in
-    let lives = S.requires.2.1.key_lives (is_old c.before.before.before.before.before.before.before.before.before.before.before.before) in
+    let dead = look_dead A.index_generation.now A.mark.now A.payload.now A.aabb.now A.kept.now A.prev.now (key A.slot.now A.keys_generation.now A.x) (sym c.look_up-found.ensures ∙ c.in_default.is) in
+    let lives = S.requires.2.1.key_lives (is_old c) in
     let z : ◌≡◌ {A = ℕ} 0 1 = cc in
     absurd (omega arith)
 
 update_entry-length-requires : tie.Need-update_entry-length-requires
 update_entry-length-requires c κs =
-    let S = c.before.before.before.before.before.before.before.before.before.before.before.before.before.before.before.before.before.before.before.before in
+    let S = c in
     let A = S.args in
     let F = S.requires.2.1 in
-    let o = is_old c.before.before.before.before.before.before.before.before.before.before.before.before.before.before.before.before.before.before in (
+    let o = is_old c in (
       (live_slot A.index_generation.now A.mark.now (key A.slot.now A.keys_generation.now A.x) (F.key_lives o)).0,
       F.queue_fits,
       S.requires.1,
@@ -129,14 +129,14 @@ update_entry-length-requires c κs =
 
 returns : tie.Need-returns
 returns c =
-    let S = c.before.before.before.before.before.before.before.before.before.before.before.before.before.before.before.before.before.before.before.before.before in
+    let S = c in
     let A = S.args in
-    let o = is_old c.before.before.before.before.before.before.before.before.before.before.before.before.before.before.before.before.before.before.before in
-    let L = look_live A.index_generation.now A.mark.now A.payload.now A.aabb.now A.kept.now A.prev.now (key A.slot.now A.keys_generation.now A.x) _ (sym c.before.before.before.before.before.before.before.before.before.look_up-found.ensures ∙ c.before.before.before.before.before.before.before.found-1.given.1) in
+    let o = is_old c in
+    let L = look_live A.index_generation.now A.mark.now A.payload.now A.aabb.now A.kept.now A.prev.now (key A.slot.now A.keys_generation.now A.x) _ (sym c.look_up-found.ensures ∙ c.in-Live.is) in
     let T = c.update_entry-length.ensures in (
       (λ backend. (
         keyed_old (index_of S backend) _ o (keys_of S) A.x,
-        entered_other (index_of S backend) _ A.same o c.before.before.before.before.before.before.before.before.before.before.before.before.before.before.before.before.before.before.if-same.false _ A.id A.b
+        entered_other (index_of S backend) _ A.same o c.if-same.false _ A.id A.b
             _ _ _ _ _ _ _ L.1 T.0 T.1.0 T.1.1.0 T.1.1.1.0 T.1.1.1.1.0 T.1.1.1.1.1,
       )),
       queue_whole A.dirty.now A.queued (get_or A.slot.now A.x 0) L.1 T.1.1.1.1.0 S.requires.1,

@@ -9,11 +9,11 @@ use Rattle.tree_rework.proofs.worlds.handed_down.Statement.{statement}
 use Rattle.tree_rework.proofs.worlds.handed_down.Tie as tie
 
 -- what the parent's number tells
-tells : (c : tie.After-parent_at-parent) → let A = c.before.args in
+tells : (c : tie.After-parent_at-parent) → let A = c.args in
     Tells A.transform.now A.clipped.now A.clip.now c.parent_at-parent.result (above_at A.order.now A.depth.now A.at)
 tells c =
-    let A = c.before.args in
-    let P = c.before.requires in
+    let A = c.args in
+    let P = c.requires in
     let lo : A.at ≤ length A.order.now = omega (arith, P.0, P.1) in
     let ld : A.at ≤ length A.depth.now = omega (arith, P.0, P.2) in
     rw c.parent_at-parent.ensures (found_above A.transform.now A.clipped.now A.clip.now A.order.now A.depth.now A.at lo ld P.3)
@@ -25,7 +25,7 @@ at_root-requires : tie.Need-at_root-requires
 at_root-requires c κs = search rules
 
 returns-then-parent-ge256 : tie.Need-returns-then-parent-ge256
-returns-then-parent-ge256 c = c.at_root.ensures ∙ sym ((tells c.before.before).none (omega (arith, c.before.if-parent-ge256.true)))
+returns-then-parent-ge256 c = c.at_root.ensures ∙ sym ((tells c.before.before).none (omega (arith, c.if-parent-ge256.true)))
 
 overflow_cast-q : tie.Need-overflow_cast-q
 overflow_cast-q c = search rules
@@ -40,7 +40,7 @@ clip_rect_at-requires : tie.Need-clip_rect_at-requires
 clip_rect_at-requires c κs = search rules
 
 returns : tie.Need-returns
-returns c = rw (c.before.before.affine_at.ensures, c.clip_rect_at.ensures) (sym ((tells c.before.before.before.before).one (omega (arith, c.before.before.before.if-parent-ge256.false))))
+returns c = rw (c.affine_at.ensures, c.clip_rect_at.ensures) (sym ((tells c.before.before.before.before).one (omega (arith, c.if-parent-ge256.false))))
 
 pub handed_down_spec : {M : Type 1} → statement M
 handed_down_spec =

@@ -32,11 +32,11 @@ put_clip_rect-requires c κs = search rules
 
 returns : tie.Need-returns
 returns c = (
-  c.before.before.before.before.before.before.place-w.ensures ∙ rw (c.before.before.before.before.before.before.before.before.before.before.handed_down-parent.ensures, c.before.before.before.before.before.before.before.before.before.affine_at-own.ensures, c.before.before.before.before.before.before.before.clip_at-own_clip.ensures),
+  c.place-w.ensures ∙ rw (c.handed_down-parent.ensures, c.affine_at-own.ensures, c.clip_at-own_clip.ensures),
   (
-    c.before.before.before.put_affine.ensures,
+    c.put_affine.ensures,
     (
-      rw c.before.before.has_clip_rect.ensures,
+      rw c.has_clip_rect.ensures,
       c.put_clip_rect.ensures,
     ),
   ),

@@ -20,16 +20,16 @@ verdict c = clip_verdict (start c).args.t1 (start c).args.id (start c).args.clip
 tested : (c : tie.After-check-v) → c.check-v.result ≡ verdict c
 tested c =
     let A = (start c).args in
-    tested_all (of_node A.t1 A.id) c.before.before.of_node-node.result c.check-v.result (finite_clip A.clip) c.before.is_finite.result no.NotFinite
-    c.before.before.of_node-node.ensures
-    c.before.is_finite.ensures
+    tested_all (of_node A.t1 A.id) c.of_node-node.result c.check-v.result (finite_clip A.clip) c.is_finite.result no.NotFinite
+    c.of_node-node.ensures
+    c.is_finite.ensures
     c.check-v.ensures
 
-low : (c : tie.In-Accepted) → (start c.before.before).args.id.0 < 256
+low : (c : tie.In-Accepted) → (start c.before).args.id.0 < 256
 low c =
-    let k = c.before.before in
+    let k = c.before in
     let A = (start k).args in
-    tested_low A.t1 A.id (finite_clip A.clip) no.NotFinite k.check-v.result (start k).well-formed.0 (tested k) c.enum_told-1.given.1
+    tested_low A.t1 A.id (finite_clip A.clip) no.NotFinite k.check-v.result (start k).well-formed.0 (tested k) c.in-Accepted.is
 
 of_node-node-requires : tie.Need-of_node-node-requires
 of_node-node-requires c κs = search rules
@@ -48,8 +48,8 @@ enum_told-in_default c = search rules
 
 returns-in_default : tie.Need-returns-in_default
 returns-in_default c =
-    let k = c.before.before in
-    refused (verdict k) k.check-v.result _ (start k).args.t1 (tested k) c.enum_told-in_default-1.given.0.0 c.enum_told-in_default-1.given.1
+    let k = c.before in
+    refused (verdict k) k.check-v.result _ (start k).args.t1 (tested k) c.in_default.field-0 c.in_default.is
 
 overflow_cast-x : tie.Need-overflow_cast-x
 overflow_cast-x c = search rules
@@ -57,7 +57,7 @@ overflow_cast-x c = search rules
 -- the stored value
 
 abbrev from_read : tie.After-stored_clip-stored → tie.In-Accepted
-from_read c = c.before.before.before.before.before.before
+from_read c = c
 
 abbrev made : tie.After-stored_clip-stored → tie.After-construct-made
 made c = c.before.before.before.before
@@ -66,7 +66,7 @@ construct-made-requires : tie.Need-construct-made-requires
 construct-made-requires c κs = search rules
 
 stored_clip-stored-requires : tie.Need-stored_clip-stored-requires
-stored_clip-stored-requires c κs = low c.before.before.before.before.before
+stored_clip-stored-requires c κs = low c
 
 eq-requires : tie.Need-eq-requires
 eq-requires c κs = search rules
@@ -78,7 +78,7 @@ returns-then-eq c =
     let k = e.before.before in
     let A = (start k).args in
     accepted (verdict k) k.check.result _ A.t1 (tested k) A.t1 e.enum_told.given.1
-    (clip_stays A.t1 A.id.0 c.before.eq.result A.clip (made d).construct.result d.stored_clip-stored.result (made d).construct.ensures d.stored_clip-stored.ensures c.before.eq.ensures c.if-eq.true)
+    (clip_stays A.t1 A.id.0 c.eq.result A.clip (made d).construct.result d.stored_clip-stored.result (made d).construct.ensures d.stored_clip-stored.ensures c.eq.ensures c.if-eq.true)
 
 clip_kind-kind-requires : tie.Need-clip_kind-kind-requires
 clip_kind-kind-requires c κs = search rules
@@ -107,7 +107,7 @@ returns c =
     let k = e.before.before in
     let A = (start k).args in
     accepted (verdict k) k.check.result _ A.t1 (tested k) _ e.enum_told.given.1
-    (clip_done A.t1 A.id.0 f.before.eq.result A.clip (made d).construct.result d.stored_clip-stored.result (made d).construct.ensures d.stored_clip-stored.ensures f.before.eq.ensures f.if-eq.false n.clip_kind-kind.result b.put_byte.new.0 p.put_clip.new.0 m.mark.new.0 c.mark-2.new.0 n.clip_kind-kind.ensures b.put_byte.ensures p.put_clip.ensures m.mark.ensures c.mark-2.ensures)
+    (clip_done A.t1 A.id.0 f.eq.result A.clip (made d).construct.result d.stored_clip-stored.result (made d).construct.ensures d.stored_clip-stored.ensures f.eq.ensures f.if-eq.false n.clip_kind-kind.result b.put_byte.new.0 p.put_clip.new.0 m.mark.new.0 c.mark-2.new.0 n.clip_kind-kind.ensures b.put_byte.ensures p.put_clip.ensures m.mark.ensures c.mark-2.ensures)
 
 pub set_local_clip_spec : {M : Type 1} → statement M
 set_local_clip_spec =

@@ -16,11 +16,11 @@ start c = c.before
 abbrev verdict : tie.After-test-v → Verdict
 verdict c = transform_verdict (start c).args.t1 (start c).args.id (start c).args.tf
 
-low : (c : tie.In-Accepted) → (start c.before.before).args.id.0 < 256
+low : (c : tie.In-Accepted) → (start c.before).args.id.0 < 256
 low c =
-    let k = c.before.before in
+    let k = c.before in
     let A = (start k).args in
-    tested_low A.t1 A.id (finite_affine A.tf) no.NotFinite k.test-v.result (start k).well-formed.0 k.test-v.ensures c.enum_told-1.given.1
+    tested_low A.t1 A.id (finite_affine A.tf) no.NotFinite k.test-v.result (start k).well-formed.0 k.test-v.ensures c.in-Accepted.is
 
 test-v-requires : tie.Need-test-v-requires
 test-v-requires c κs = search rules
@@ -33,8 +33,8 @@ enum_told-in_default c = search rules
 
 returns-in_default : tie.Need-returns-in_default
 returns-in_default c =
-    let k = c.before.before in
-    refused (verdict k) k.test-v.result _ (start k).args.t1 k.test-v.ensures c.enum_told-in_default-1.given.0.0 c.enum_told-in_default-1.given.1
+    let k = c.before in
+    refused (verdict k) k.test-v.result _ (start k).args.t1 k.test-v.ensures c.in_default.field-0 c.in_default.is
 
 overflow_cast-x : tie.Need-overflow_cast-x
 overflow_cast-x c = search rules
@@ -42,10 +42,10 @@ overflow_cast-x c = search rules
 -- the stored value
 
 abbrev from_read : tie.After-affine_at-stored → tie.In-Accepted
-from_read c = c.before.before.before.before
+from_read c = c
 
 affine_at-stored-requires : tie.Need-affine_at-stored-requires
-affine_at-stored-requires c κs = low c.before.before.before
+affine_at-stored-requires c κs = low c
 
 eq-requires : tie.Need-eq-requires
 eq-requires c κs = search rules
@@ -57,7 +57,7 @@ returns-then-eq c =
     let k = e.before.before in
     let A = (start k).args in
     accepted (verdict k) k.test.result _ A.t1 k.test.ensures A.t1 e.enum_told.given.1
-    (transform_stays A.t1 A.id.0 c.before.eq.result A.tf d.affine_at-stored.result d.affine_at-stored.ensures c.before.eq.ensures c.if-eq.true)
+    (transform_stays A.t1 A.id.0 c.eq.result A.tf d.affine_at-stored.result d.affine_at-stored.ensures c.eq.ensures c.if-eq.true)
 
 put_affine-requires : tie.Need-put_affine-requires
 put_affine-requires c κs = low (from_read c.before.before.before)
@@ -78,7 +78,7 @@ returns c =
     let k = e.before.before in
     let A = (start k).args in
     accepted (verdict k) k.test.result _ A.t1 k.test.ensures _ e.enum_told.given.1
-    (transform_done A.t1 A.id.0 f.before.eq.result A.tf d.affine_at-stored.result d.affine_at-stored.ensures f.before.eq.ensures f.if-eq.false p.put_affine.new.0 m.mark.new.0 c.mark-2.new.0 p.put_affine.ensures m.mark.ensures c.mark-2.ensures)
+    (transform_done A.t1 A.id.0 f.eq.result A.tf d.affine_at-stored.result d.affine_at-stored.ensures f.eq.ensures f.if-eq.false p.put_affine.new.0 m.mark.new.0 c.mark-2.new.0 p.put_affine.ensures m.mark.ensures c.mark-2.ensures)
 
 pub set_local_transform_spec : {M : Type 1} → statement M
 set_local_transform_spec =

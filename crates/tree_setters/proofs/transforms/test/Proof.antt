@@ -13,11 +13,11 @@ use Rattle.tree_setters.proofs.transforms.test.Tie as tie
 
 -- before the tables are lent
 abbrev start : tie.After-sound_tables-sound → tie.Start
-start c = c.before.before.before.before.before.before.before.before.before.before.before.before.before.before.before.before.before.before.before.before.before.before.before.before.before
+start c = c
 
 sound_tables-sound-requires : tie.Need-sound_tables-sound-requires
 sound_tables-sound-requires c κs =
-    let s = c.before.before.before.before.before.before.before.before.before.before.before.before.before.before.before.before.before.before.before.before.before.before.before.before in
+    let s = c in
     let l = sized s.args.t1 s.well_formed.0 in
     (l.order, l.depth, l.free, l.mark, l.entries_free, l.dirty)
 
@@ -26,7 +26,7 @@ check-held-requires c κs = search rules
 
 -- the first test is `held`
 told : (c : tie.After-check-held) → c.check-held.result ≡ held (start c.before).args.t1
-told c = c.check-held.ensures ∙ ap (λ (b : Bool). checked is.Accepted b no.Unsound) (c.before.sound_tables-sound.ensures (start c.before).args.t1)
+told c = c.check-held.ensures ∙ ap (λ (b : Bool). checked is.Accepted b no.Unsound) (c.sound_tables-sound.ensures (start c.before).args.t1)
 
 enum_told-1 : tie.Need-enum_told-1
 enum_told-1 c = search rules
@@ -36,7 +36,7 @@ enum_told-in_default c = search rules
 
 returns-in_default : tie.Need-returns-in_default
 returns-in_default c =
-    let h = c.before.before in
+    let h = c.before in
     let A = (start h.before).args in
     let q = c.enum_told-in_default-1.given in
     let w = h.check-held.result in
@@ -44,11 +44,11 @@ returns-in_default c =
 
 is_live-live-requires : tie.Need-is_live-live-requires
 is_live-live-requires c κs =
-    let e = c.before.before.before in
+    let e = c in
     let h = e.before.before in
-    let s = start h.before in
+    let s = start h in
     let l = sized s.args.t1 s.good.0 in
-    live_needs s.args.t1 l (held_accepted s.args.t1 l (sym (told h) ∙ e.enum_told-1.given.1))
+    live_needs s.args.t1 l (held_accepted s.args.t1 l (sym (told h) ∙ e.in-Accepted.is))
 
 check-node-requires : tie.Need-check-node-requires
 check-node-requires c κs = search rules
@@ -64,7 +64,7 @@ unfolding live
 returns c =
     let k = c.before.before in
     let l = k.before in
-    rw (c.check.ensures, c.before.is_finite.ensures, k.check-node.ensures, l.is_live-live.ensures, ← told l.before.before.before.before.before.before)
+    rw (c.check.ensures, c.is_finite.ensures, k.check-node.ensures, l.is_live-live.ensures, ← told l.before.before.before.before.before)
 
 pub test_spec : {M : Type 1} → statement M
 test_spec =

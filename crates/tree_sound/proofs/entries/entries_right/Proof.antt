@@ -38,10 +38,10 @@ loop-k-smaller c = search rules
 
 loop-k-preserved : tie.Need-loop-k-preserved invariant-loop-k decreases-loop-k
 unfolding entry_at
-loop-k-preserved c = let L = c.before.before.before.before.loop-k in let A = c.before.before.before.before.before.args in (omega arith, rw (every_next L.k (entry_at A.live.now A.committed.now A.slot.now A.mark.now A.payload.now), ← L.invariant.1, c.before.owned_right-owned.ensures, c.before.before.id_at-id.ensures))
+loop-k-preserved c = let L = c.loop-k in let A = c.args in (omega arith, rw (every_next L.k (entry_at A.live.now A.committed.now A.slot.now A.mark.now A.payload.now), ← L.invariant.1, c.owned_right-owned.ensures, c.id_at-id.ensures))
 
 returns : tie.Need-returns invariant-loop-k decreases-loop-k
-returns c = let L = c.before.loop-k in let e : L.k ≡ c.before.before.args.used = omega arith in rw (← e) L.invariant.1
+returns c = let L = c.loop-k in let e : L.k ≡ c.args.used = omega arith in rw (← e) L.invariant.1
 
 pub entries_right_spec : {M : Type 1} → statement M
 entries_right_spec =

@@ -8,7 +8,7 @@ use Rattle.tree_sound.proofs.entries.owned_right.Tie as tie
 
 returns-then-owner-ge256 : tie.Need-returns-then-owner-ge256
 unfolding owned_at
-returns-then-owner-ge256 c = let e : get_or c.before.args.live.now c.before.args.owner 0 ≡ 0 = get_or-eq_default c.before.args.live.now 0 (omega (arith, c.before.requires)) in rw (owned_at, e)
+returns-then-owner-ge256 c = let e : get_or c.args.live.now c.args.owner 0 ≡ 0 = get_or-eq_default c.args.live.now 0 (omega (arith, c.requires)) in rw (owned_at, e)
 
 bounds-live-x : tie.Need-bounds-live-x
 bounds-live-x c = search rules

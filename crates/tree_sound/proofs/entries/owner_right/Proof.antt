@@ -7,7 +7,7 @@ use Rattle.tree_sound.proofs.entries.owner_right.Tie as tie
 
 returns-then-key-ge512 : tie.Need-returns-then-key-ge512
 unfolding owns_at
-returns-then-key-ge512 c = rw (owns_at, le-ltb c.before.before.args.key.0 512 (omega arith))
+returns-then-key-ge512 c = rw (owns_at, le-ltb c.args.key.0 512 (omega arith))
 
 overflow_cast-k : tie.Need-overflow_cast-k
 overflow_cast-k c = search rules
@@ -26,7 +26,7 @@ bounds-generation-k c = search rules
 
 returns : tie.Need-returns
 unfolding owns_at
-returns c = rw (owns_at, lt-ltb c.before.before.before.before.before.before.before.before.before.before.before.args.key.0 512 (omega arith), c.before.before.before.before.before.before.before.id_at-id.ensures)
+returns c = rw (owns_at, lt-ltb c.args.key.0 512 (omega arith), c.id_at-id.ensures)
 
 pub owner_right_spec : {M : Type 1} → statement M
 owner_right_spec =

@@ -26,16 +26,16 @@ bounds-order-i : tie.Need-bounds-order-i invariant-loop-i decreases-loop-i
 bounds-order-i c = search rules
 
 overflow_cast-x : tie.Need-overflow_cast-x invariant-loop-i decreases-loop-i
-overflow_cast-x c = omega (arith, c.before.before.before.requires.2 c.before.before.loop-i.i (omega arith))
+overflow_cast-x c = omega (arith, c.requires.2 c.loop-i.i (omega arith))
 
 bounds-marked-x : tie.Need-bounds-marked-x invariant-loop-i decreases-loop-i
-bounds-marked-x c = omega (arith, c.before.before.before.requires.2 c.before.before.loop-i.i (omega arith))
+bounds-marked-x c = omega (arith, c.requires.2 c.loop-i.i (omega arith))
 
 bounds-transform-x : tie.Need-bounds-transform-x invariant-loop-i decreases-loop-i
-bounds-transform-x c = omega (arith, c.before.before.before.before.requires.2 c.before.before.before.loop-i.i (omega arith))
+bounds-transform-x c = omega (arith, c.requires.2 c.loop-i.i (omega arith))
 
 bounds-clip-x : tie.Need-bounds-clip-x invariant-loop-i decreases-loop-i
-bounds-clip-x c = omega (arith, c.before.before.before.before.before.requires.2 c.before.before.before.before.loop-i.i (omega arith))
+bounds-clip-x c = omega (arith, c.requires.2 c.loop-i.i (omega arith))
 
 overflow_add-i : tie.Need-overflow_add-i invariant-loop-i decreases-loop-i
 overflow_add-i c = search rules
@@ -45,10 +45,10 @@ loop-i-smaller c = search rules
 
 loop-i-preserved : tie.Need-loop-i-preserved invariant-loop-i decreases-loop-i
 unfolding marks_at
-loop-i-preserved c = let L = c.before.before.before.before.before.loop-i in let A = c.before.before.before.before.before.before.args in (omega arith, rw (every_more (marks_at A.marked.now A.transform.now A.clip.now) A.order.now L.i (omega (arith, c.before.before.before.before.before.before.requires.0, c.before.before.before.before.before.before.requires.1)), ← L.invariant.1))
+loop-i-preserved c = let L = c.loop-i in let A = c.args in (omega arith, rw (every_more (marks_at A.marked.now A.transform.now A.clip.now) A.order.now L.i (omega (arith, c.requires.0, c.requires.1)), ← L.invariant.1))
 
 returns : tie.Need-returns invariant-loop-i decreases-loop-i
-returns c = let L = c.before.loop-i in let e : L.i ≡ c.before.before.args.count = omega arith in rw (← e) L.invariant.1
+returns c = let L = c.loop-i in let e : L.i ≡ c.args.count = omega arith in rw (← e) L.invariant.1
 
 pub marks_right_spec : {M : Type 1} → statement M
 marks_right_spec =

@@ -24,7 +24,7 @@ bounds-clip-x c = search rules
 
 returns : tie.Need-returns
 unfolding new_at of_bits of_fields odd
-returns c = rw (c.before.before.eq-2.ensures, c.before.before.before.eq.ensures, c.before.before.before.before.rect_at-h.ensures, c.before.before.before.before.before.rect_at-b.ensures)
+returns c = rw (c.eq-2.ensures, c.eq.ensures, c.rect_at-h.ensures, c.rect_at-b.ensures)
 
 pub new_node_right_spec : {M : Type 1} → statement M
 new_node_right_spec =

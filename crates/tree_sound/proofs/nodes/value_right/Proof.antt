@@ -38,7 +38,7 @@ is_constructed-requires c κs = search rules
 
 returns : tie.Need-returns
 unfolding values_at
-returns c = rw (c.is_constructed.ensures, c.before.before.is_finite-4.ensures, c.before.before.before.is_finite-3.ensures, c.before.before.before.before.is_finite-2.ensures, c.before.before.before.before.before.is_finite.ensures, c.before.before.before.before.before.before.clip_at-c.ensures, c.before.before.before.before.before.before.before.before.affine_at-t.ensures, c.before.before.before.before.before.before.before.before.before.insets_at-s.ensures, c.before.before.before.before.before.before.before.before.before.before.rect_at-b.ensures)
+returns c = rw (c.is_constructed.ensures, c.is_finite-4.ensures, c.is_finite-3.ensures, c.is_finite-2.ensures, c.is_finite.ensures, c.clip_at-c.ensures, c.affine_at-t.ensures, c.insets_at-s.ensures, c.rect_at-b.ensures)
 
 pub value_right_spec : {M : Type 1} → statement M
 value_right_spec =

@@ -22,10 +22,10 @@ shares_right-shares-requires c κs = search rules
 
 returns : tie.Need-returns
 unfolding slots_right
-returns c = let F = c.before.before.before.before.before.before.before.count_list-live in
-    let Q = c.before.before.before.before.before.before.count_list-unused in
-    let A = c.before.before.before.before.before.before.before.before.args in
-    let S = c.before.shares_right-shares in (
+returns c = let F = c.count_list-live in
+    let Q = c.count_list-unused in
+    let A = c.args in
+    let S = c.shares_right-shares in (
       rw (S.ensures, ← F.ensures.0, ← Q.ensures.0)
           (ap (λ (b : Bool). leb A.used 256 && b)
           (behind F.result.ok Q.result.ok 256

@@ -35,10 +35,10 @@ loop-x-smaller : tie.Need-loop-x-smaller invariant-loop-x decreases-loop-x
 loop-x-smaller c = search rules
 
 loop-x-preserved : tie.Need-loop-x-preserved invariant-loop-x decreases-loop-x
-loop-x-preserved c = let L = c.before.before.before.before.loop-x in let A = c.before.before.before.before.before.args in (omega arith, rw (every_next L.x (λ y. eqb (get_or A.live.now y 0 + get_or A.free.now y 0) (tally (ltb y A.used))), ← L.invariant.1, c.slot_right-ok.ensures))
+loop-x-preserved c = let L = c.loop-x in let A = c.args in (omega arith, rw (every_next L.x (λ y. eqb (get_or A.live.now y 0 + get_or A.free.now y 0) (tally (ltb y A.used))), ← L.invariant.1, c.slot_right-ok.ensures))
 
 returns : tie.Need-returns invariant-loop-x decreases-loop-x
-returns c = let L = c.before.loop-x in let e : L.x ≡ 256 = omega arith in rw (← e) L.invariant.1
+returns c = let L = c.loop-x in let e : L.x ≡ 256 = omega arith in rw (← e) L.invariant.1
 
 pub shares_right_spec : {M : Type 1} → statement M
 shares_right_spec =

@@ -26,10 +26,10 @@ bounds-order-i : tie.Need-bounds-order-i invariant-loop-i decreases-loop-i
 bounds-order-i c = search rules
 
 overflow_cast-x : tie.Need-overflow_cast-x invariant-loop-i decreases-loop-i
-overflow_cast-x c = omega (arith, c.before.before.before.requires.2 c.before.before.loop-i.i (omega arith))
+overflow_cast-x c = omega (arith, c.requires.2 c.loop-i.i (omega arith))
 
 bounds-committed-x : tie.Need-bounds-committed-x invariant-loop-i decreases-loop-i
-bounds-committed-x c = omega (arith, c.before.before.before.requires.2 c.before.before.loop-i.i (omega arith))
+bounds-committed-x c = omega (arith, c.requires.2 c.loop-i.i (omega arith))
 
 unit-sum-requires : tie.Need-unit-sum-requires invariant-loop-i decreases-loop-i
 unit-sum-requires c κs = search rules
@@ -44,10 +44,10 @@ loop-i-smaller : tie.Need-loop-i-smaller invariant-loop-i decreases-loop-i
 loop-i-smaller c = search rules
 
 loop-i-preserved : tie.Need-loop-i-preserved invariant-loop-i decreases-loop-i
-loop-i-preserved c = let L = c.before.before.before.before.loop-i in let A = c.before.before.before.before.before.args in (omega arith, omega (arith, c.unit-sum.ensures.1), rw (count_more (λ x. get_or A.committed.now x false) A.order.now L.i (omega (arith, c.before.before.before.before.before.requires.0, c.before.before.before.before.before.requires.1)), ← L.invariant.2, c.unit-sum.ensures.0))
+loop-i-preserved c = let L = c.loop-i in let A = c.args in (omega arith, omega (arith, c.unit-sum.ensures.1), rw (count_more (λ x. get_or A.committed.now x false) A.order.now L.i (omega (arith, c.requires.0, c.requires.1)), ← L.invariant.2, c.unit-sum.ensures.0))
 
 returns : tie.Need-returns invariant-loop-i decreases-loop-i
-returns c = let L = c.before.loop-i in let e : L.i ≡ c.before.before.args.count = omega arith in (omega (arith, c.before.before.requires.0), rw (← e) L.invariant.2)
+returns c = let L = c.loop-i in let e : L.i ≡ c.args.count = omega arith in (omega (arith, c.requires.0), rw (← e) L.invariant.2)
 
 pub count_committed_spec : {M : Type 1} → statement M
 count_committed_spec =

@@ -35,10 +35,10 @@ loop-k-smaller : tie.Need-loop-k-smaller invariant-loop-k decreases-loop-k
 loop-k-smaller c = search rules
 
 loop-k-preserved : tie.Need-loop-k-preserved invariant-loop-k decreases-loop-k
-loop-k-preserved c = let L = c.before.before.before.loop-k in let A = c.before.before.before.before.args in (omega arith, omega (arith, c.unit-sum.ensures.1), rw (below_more (λ y. leb 4 (get_or A.mark.now y 0)) L.k, ← L.invariant.2, c.unit-sum.ensures.0))
+loop-k-preserved c = let L = c.loop-k in let A = c.args in (omega arith, omega (arith, c.unit-sum.ensures.1), rw (below_more (λ y. leb 4 (get_or A.mark.now y 0)) L.k, ← L.invariant.2, c.unit-sum.ensures.0))
 
 returns : tie.Need-returns invariant-loop-k decreases-loop-k
-returns c = let L = c.before.loop-k in let e : L.k ≡ c.before.before.args.used = omega arith in (omega arith, rw (← e) L.invariant.2)
+returns c = let L = c.loop-k in let e : L.k ≡ c.args.used = omega arith in (omega arith, rw (← e) L.invariant.2)
 
 pub count_removed_spec : {M : Type 1} → statement M
 count_removed_spec =

@@ -27,13 +27,13 @@ bounds-order-i : tie.Need-bounds-order-i invariant-loop-i decreases-loop-i
 bounds-order-i c = search rules
 
 overflow_cast-x : tie.Need-overflow_cast-x invariant-loop-i decreases-loop-i
-overflow_cast-x c = omega (arith, c.before.before.before.requires.2 c.before.before.loop-i.i (omega arith))
+overflow_cast-x c = omega (arith, c.requires.2 c.loop-i.i (omega arith))
 
 bounds-committed-x : tie.Need-bounds-committed-x invariant-loop-i decreases-loop-i
-bounds-committed-x c = omega (arith, c.before.before.before.requires.2 c.before.before.loop-i.i (omega arith))
+bounds-committed-x c = omega (arith, c.requires.2 c.loop-i.i (omega arith))
 
 new_node_right-requires : tie.Need-new_node_right-requires invariant-loop-i decreases-loop-i
-new_node_right-requires c κs = omega (arith, c.before.before.before.before.requires.2 c.before.before.before.loop-i.i (omega arith))
+new_node_right-requires c κs = omega (arith, c.requires.2 c.loop-i.i (omega arith))
 
 overflow_add-i : tie.Need-overflow_add-i invariant-loop-i decreases-loop-i
 overflow_add-i c = search rules
@@ -42,10 +42,10 @@ loop-i-smaller : tie.Need-loop-i-smaller invariant-loop-i decreases-loop-i
 loop-i-smaller c = search rules
 
 loop-i-preserved : tie.Need-loop-i-preserved invariant-loop-i decreases-loop-i
-loop-i-preserved c = let L = c.before.before.before.before.loop-i in let A = c.before.before.before.before.before.args in (omega arith, rw (every_more (λ x. get_or A.committed.now x false || new_at A.bounds.now A.hit_bounds.now A.transform.now A.clip.now x) A.order.now L.i (omega (arith, c.before.before.before.before.before.requires.0, c.before.before.before.before.before.requires.1)), ← L.invariant.1, c.new_node_right.ensures))
+loop-i-preserved c = let L = c.loop-i in let A = c.args in (omega arith, rw (every_more (λ x. get_or A.committed.now x false || new_at A.bounds.now A.hit_bounds.now A.transform.now A.clip.now x) A.order.now L.i (omega (arith, c.requires.0, c.requires.1)), ← L.invariant.1, c.new_node_right.ensures))
 
 returns : tie.Need-returns invariant-loop-i decreases-loop-i
-returns c = let L = c.before.loop-i in let e : L.i ≡ c.before.before.args.count = omega arith in rw (← e) L.invariant.1
+returns c = let L = c.loop-i in let e : L.i ≡ c.args.count = omega arith in rw (← e) L.invariant.1
 
 pub new_right_spec : {M : Type 1} → statement M
 new_right_spec =

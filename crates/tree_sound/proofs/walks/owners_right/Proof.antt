@@ -27,28 +27,28 @@ bounds-order-i : tie.Need-bounds-order-i invariant-loop-i decreases-loop-i
 bounds-order-i c = search rules
 
 overflow_cast-x : tie.Need-overflow_cast-x invariant-loop-i decreases-loop-i
-overflow_cast-x c = omega (arith, c.before.before.before.requires.2 c.before.before.loop-i.i (omega arith))
+overflow_cast-x c = omega (arith, c.requires.2 c.loop-i.i (omega arith))
 
 offset_bounds-slot-x : tie.Need-offset_bounds-slot-x invariant-loop-i decreases-loop-i
-offset_bounds-slot-x c = omega (arith, c.before.before.before.requires.2 c.before.before.loop-i.i (omega arith))
+offset_bounds-slot-x c = omega (arith, c.requires.2 c.loop-i.i (omega arith))
 
 bounds-slot-x : tie.Need-bounds-slot-x invariant-loop-i decreases-loop-i
-bounds-slot-x c = omega (arith, c.before.before.before.requires.2 c.before.before.loop-i.i (omega arith))
+bounds-slot-x c = omega (arith, c.requires.2 c.loop-i.i (omega arith))
 
 offset_bounds-keys_generation-x : tie.Need-offset_bounds-keys_generation-x invariant-loop-i decreases-loop-i
-offset_bounds-keys_generation-x c = omega (arith, c.before.before.before.before.requires.2 c.before.before.before.loop-i.i (omega arith))
+offset_bounds-keys_generation-x c = omega (arith, c.requires.2 c.loop-i.i (omega arith))
 
 bounds-keys_generation-x : tie.Need-bounds-keys_generation-x invariant-loop-i decreases-loop-i
-bounds-keys_generation-x c = omega (arith, c.before.before.before.before.requires.2 c.before.before.before.loop-i.i (omega arith))
+bounds-keys_generation-x c = omega (arith, c.requires.2 c.loop-i.i (omega arith))
 
 offset_bounds-slots_generation-x : tie.Need-offset_bounds-slots_generation-x invariant-loop-i decreases-loop-i
-offset_bounds-slots_generation-x c = omega (arith, c.before.before.before.before.before.requires.2 c.before.before.before.before.loop-i.i (omega arith))
+offset_bounds-slots_generation-x c = omega (arith, c.requires.2 c.loop-i.i (omega arith))
 
 bounds-slots_generation-x : tie.Need-bounds-slots_generation-x invariant-loop-i decreases-loop-i
-bounds-slots_generation-x c = omega (arith, c.before.before.before.before.before.requires.2 c.before.before.before.before.loop-i.i (omega arith))
+bounds-slots_generation-x c = omega (arith, c.requires.2 c.loop-i.i (omega arith))
 
 bounds-committed-x : tie.Need-bounds-committed-x invariant-loop-i decreases-loop-i
-bounds-committed-x c = omega (arith, c.before.before.before.before.before.before.requires.2 c.before.before.before.before.before.loop-i.i (omega arith))
+bounds-committed-x c = omega (arith, c.requires.2 c.loop-i.i (omega arith))
 
 owner_right-requires : tie.Need-owner_right-requires invariant-loop-i decreases-loop-i
 owner_right-requires c κs = search rules
@@ -60,10 +60,10 @@ loop-i-smaller : tie.Need-loop-i-smaller invariant-loop-i decreases-loop-i
 loop-i-smaller c = search rules
 
 loop-i-preserved : tie.Need-loop-i-preserved invariant-loop-i decreases-loop-i
-loop-i-preserved c = let L = c.before.before.before.before.before.before.before.loop-i in let A = c.before.before.before.before.before.before.before.before.args in (omega arith, rw (every_more (λ x. not (get_or A.committed.now x false) || owns_at A.mark.now A.index_generation.now A.payload.now (record { 0 = get_or A.slot.now x 0; 1 = get_or A.keys_generation.now x 0 }) (record { 0 = x; 1 = get_or A.slots-generation.now x 0 })) A.order.now L.i (omega (arith, c.before.before.before.before.before.before.before.before.requires.0, c.before.before.before.before.before.before.before.before.requires.1)), ← L.invariant.1, c.owner_right.ensures))
+loop-i-preserved c = let L = c.loop-i in let A = c.args in (omega arith, rw (every_more (λ x. not (get_or A.committed.now x false) || owns_at A.mark.now A.index_generation.now A.payload.now (record { 0 = get_or A.slot.now x 0; 1 = get_or A.keys_generation.now x 0 }) (record { 0 = x; 1 = get_or A.slots-generation.now x 0 })) A.order.now L.i (omega (arith, c.requires.0, c.requires.1)), ← L.invariant.1, c.owner_right.ensures))
 
 returns : tie.Need-returns invariant-loop-i decreases-loop-i
-returns c = let L = c.before.loop-i in let e : L.i ≡ c.before.before.args.count = omega arith in rw (← e) L.invariant.1
+returns c = let L = c.loop-i in let e : L.i ≡ c.args.count = omega arith in rw (← e) L.invariant.1
 
 pub owners_right_spec : {M : Type 1} → statement M
 owners_right_spec =

@@ -55,35 +55,35 @@ new-here-requires : tie.Need-new-here-requires invariant-loop-k decreases-loop-k
 new-here-requires c κs = search rules
 
 loop-k-init : tie.Need-loop-k-init invariant-loop-k decreases-loop-k
-loop-k-init c = let A = c.before.args in (omega arith, λ t. tap_none (tree c.before t) A.asked A.point c.new-here.result)
+loop-k-init c = let A = c.args in (omega arith, λ t. tap_none (tree c.before t) A.asked A.point c.new-here.result)
 
 visited-visited-requires : tie.Need-visited-visited-requires invariant-loop-k decreases-loop-k
-visited-visited-requires c κs = omega (arith, c.loop-k-test.true, c.before.before.before.requires.used_fits)
+visited-visited-requires c κs = omega (arith, c.loop-k-test.true, c.requires.used_fits)
 
 id_at-id-requires : tie.Need-id_at-id-requires invariant-loop-k decreases-loop-k
-id_at-id-requires c κs = omega (arith, c.before.loop-k-test.true, c.before.before.before.before.requires.used_fits)
+id_at-id-requires c κs = omega (arith, c.loop-k-test.true, c.requires.used_fits)
 
 overflow_cast-x : tie.Need-overflow_cast-x invariant-loop-k decreases-loop-k
 overflow_cast-x c = search rules
 
 -- a visited entry's node is shown
-shown : (c : tie.After-visited-visited invariant-loop-k decreases-loop-k) → c.visited-visited.result ≡ true → let A = c.before.before.before.before.args in Shown A.order.now A.count (carried_by A.payload.now c.before.before.loop-k.k)
+shown : (c : tie.After-visited-visited invariant-loop-k decreases-loop-k) → c.visited-visited.result ≡ true → let A = c.args in Shown A.order.now A.count (carried_by A.payload.now c.loop-k.k)
 shown c e =
     let l = c.before in
     let s = l.before.before.before in
     let A = s.args in
-    let k = l.before.loop-k.k in
+    let k = l.loop-k.k in
     s.requires.carried k (omega (arith, l.loop-k-test.true, s.requires.used_fits))
-    (visits_used A.present.now A.boxes.now A.mark.now l.before.before.new-here.result k (sym c.visited-visited.ensures ∙ e))
+    (visits_used A.present.now A.boxes.now A.mark.now l.new-here.result k (sym c.visited-visited.ensures ∙ e))
 
-shown_id : (c : tie.After-id_at-id invariant-loop-k decreases-loop-k) → c.before.visited-visited.result ≡ true → let A = c.before.before.before.before.before.args in Shown A.order.now A.count c.id_at-id.result.0
+shown_id : (c : tie.After-id_at-id invariant-loop-k decreases-loop-k) → c.visited-visited.result ≡ true → let A = c.args in Shown A.order.now A.count c.id_at-id.result.0
 shown_id c e =
-    let A = c.before.before.before.before.before.args in
+    let A = c.args in
     subst (λ (y : ℕ). Shown A.order.now A.count y) (ap (λ (i : NodeId). i.0) (sym c.id_at-id.ensures)) (shown c.before e)
 
 fine-take-requires : tie.Need-fine-take-requires invariant-loop-k decreases-loop-k
 fine-take-requires c κs =
-    let p = c.before.before.before.before.before.before.requires in
+    let p = c.requires in
     (p.fits, p.orders, p.depths, p.low, shown_id c.before)
 
 keep-best-requires : tie.Need-keep-best-requires invariant-loop-k decreases-loop-k
@@ -96,15 +96,15 @@ keep-best-requires c κs =
     let p = s.requires in (
       p.fits,
       p.orders,
-      (l.before.loop-k.invariant.1 fresh_tree).shown,
+      (l.loop-k.invariant.1 fresh_tree).shown,
       λ e. shown_id i (and_left v.visited-visited.result (fine_of (tree s fresh_tree) A.asked A.point i.id_at-id.result.0) (sym c.fine-take.ensures ∙ e)),
     )
 
 overflow_add-k : tie.Need-overflow_add-k invariant-loop-k decreases-loop-k
-overflow_add-k c = omega (arith, c.before.before.before.before.before.loop-k-test.true, c.before.before.before.before.before.before.before.before.requires.used_fits)
+overflow_add-k c = omega (arith, c.loop-k-test.true, c.requires.used_fits)
 
 loop-k-smaller : tie.Need-loop-k-smaller invariant-loop-k decreases-loop-k
-loop-k-smaller c = omega (arith, c.before.before.before.before.before.loop-k-test.true)
+loop-k-smaller c = omega (arith, c.loop-k-test.true)
 
 loop-k-preserved : tie.Need-loop-k-preserved invariant-loop-k decreases-loop-k
 loop-k-preserved c =
@@ -113,24 +113,24 @@ loop-k-preserved c =
     let v = i.before in
     let l = v.before in
     let s = l.before.before.before in
-    let L = l.before.loop-k in
+    let L = l.loop-k in
     let A = s.args in
     let x = i.id_at-id.ensures in (
       omega (arith, l.loop-k-test.true),
-      λ t. tap_turn (tree s t) A.asked A.point l.before.before.new-here.result L.best c.keep-best.result L.k v.visited-visited.result f.fine-take.result
+      λ t. tap_turn (tree s t) A.asked A.point l.new-here.result L.best c.keep-best.result L.k v.visited-visited.result f.fine-take.result
           v.visited-visited.ensures (rw x at f.fine-take.ensures) (rw x at c.keep-best.ensures) (shown v) (L.invariant.1 t),
     )
 
 returns : tie.Need-returns invariant-loop-k decreases-loop-k
 returns c =
-    let L = c.before.loop-k in
+    let L = c.loop-k in
     let s = c.before.before.before in
     let A = s.args in
-    let here = c.before.before.new-here.result in
+    let here = c.new-here.result in
     let e : L.k ≡ A.used = omega (arith, L.invariant.0, c.loop-k-test.false) in
     let d : A.used + (512 - A.used) ≡ 512 = omega (arith, s.requires.used_fits) in (
       λ t. tap_ends (tree s t) A.asked A.point L.best
-          (rw (← c.before.before.new-here.ensures)
+          (rw (← c.new-here.ensures)
           (subst (λ (m : ℕ). Tapping (tree s t) A.asked A.point here L.best m) d
           (tap_beyond (tree s t) A.asked A.point here L.best A.used (512 - A.used) s.requires.beyond
           (subst (λ (m : ℕ). Tapping (tree s t) A.asked A.point here L.best m) e (L.invariant.1 t))))),

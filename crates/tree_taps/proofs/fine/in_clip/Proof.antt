@@ -23,7 +23,7 @@ contains-requires c κs = search rules
 
 returns : tie.Need-returns
 unfolding clip_holds
-returns c = rw (c.contains.ensures, c.before.map_point.ensures, c.before.before.inverse-inverse.ensures, c.before.before.before.affine_at-placed.ensures, c.before.before.before.before.clip_at-own.ensures)
+returns c = rw (c.contains.ensures, c.map_point.ensures, c.inverse-inverse.ensures, c.affine_at-placed.ensures, c.clip_at-own.ensures)
 
 pub in_clip_spec : {M : Type 1} → statement M
 in_clip_spec =

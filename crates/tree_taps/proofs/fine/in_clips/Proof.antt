@@ -47,47 +47,47 @@ bounds-order-j : tie.Need-bounds-order-j invariant-loop-j decreases-loop-j
 bounds-order-j c = search rules
 
 overflow_cast-q : tie.Need-overflow_cast-q invariant-loop-j decreases-loop-j
-overflow_cast-q c = let L = c.before.before.before.before.before.loop-j in omega (arith, c.before.before.before.before.before.before.before.requires.3 (L.j - 1) (omega (arith, L.invariant.0, c.before.before.before.before.loop-j-test.true)))
+overflow_cast-q c = let L = c.loop-j in omega (arith, c.requires.3 (L.j - 1) (omega (arith, L.invariant.0, c.loop-j-test.true)))
 
 in_clip-requires : tie.Need-in_clip-requires invariant-loop-j decreases-loop-j
-in_clip-requires c κs = let L = c.before.before.before.before.before.loop-j in c.before.before.before.before.before.before.before.requires.3 _ (omega (arith, L.invariant.0, c.before.before.before.before.loop-j-test.true))
+in_clip-requires c κs = let L = c.loop-j in c.requires.3 _ (omega (arith, L.invariant.0, c.loop-j-test.true))
 
 returns-then-not-in_clip : tie.Need-returns-then-not-in_clip invariant-loop-j decreases-loop-j
 returns-then-not-in_clip c =
-    let L = c.before.before.before.before.before.before.before.loop-j in
-    let A = c.before.before.before.before.before.before.before.before.before.args in
+    let L = c.loop-j in
+    let A = c.args in
     let lx : length A.order.now ≡ 256 = search rules in
     let ld : length A.depth.now ≡ 256 = search rules in
-    let i = c.before.in_clip in
-    sym (L.invariant.2 ∙ every_stop L.d L.j A.order.now A.depth.now (omega arith) (omega arith) (omega arith) (clip_holds A.kind.now A.clip.now A.transform.now A.point) c.before.before.before.before.if-depth-j.true (sym i.ensures ∙ not-true i.result c.if-not-in_clip.true))
+    let i = c.in_clip in
+    sym (L.invariant.2 ∙ every_stop L.d L.j A.order.now A.depth.now (omega arith) (omega arith) (omega arith) (clip_holds A.kind.now A.clip.now A.transform.now A.point) c.if-depth-j.true (sym i.ensures ∙ not-true i.result c.if-not-in_clip.true))
 
 loop-j-smaller-else-not-in_clip : tie.Need-loop-j-smaller-else-not-in_clip invariant-loop-j decreases-loop-j
 loop-j-smaller-else-not-in_clip c = search rules
 
 loop-j-preserved-else-not-in_clip : tie.Need-loop-j-preserved-else-not-in_clip invariant-loop-j decreases-loop-j
 loop-j-preserved-else-not-in_clip c =
-    let L = c.before.before.before.before.before.before.before.loop-j in
-    let A = c.before.before.before.before.before.before.before.before.before.args in
+    let L = c.loop-j in
+    let A = c.args in
     let lx : length A.order.now ≡ 256 = search rules in
     let ld : length A.depth.now ≡ 256 = search rules in
-    let i = c.before.in_clip in
-    (omega arith, omega arith, L.invariant.2 ∙ every_on L.d L.j A.order.now A.depth.now (omega arith) (omega arith) (omega arith) (clip_holds A.kind.now A.clip.now A.transform.now A.point) c.before.before.before.before.if-depth-j.true (sym i.ensures ∙ not-false i.result c.if-not-in_clip.false))
+    let i = c.in_clip in
+    (omega arith, omega arith, L.invariant.2 ∙ every_on L.d L.j A.order.now A.depth.now (omega arith) (omega arith) (omega arith) (clip_holds A.kind.now A.clip.now A.transform.now A.point) c.if-depth-j.true (sym i.ensures ∙ not-false i.result c.if-not-in_clip.false))
 
 loop-j-smaller : tie.Need-loop-j-smaller invariant-loop-j decreases-loop-j
 loop-j-smaller c = search rules
 
 loop-j-preserved : tie.Need-loop-j-preserved invariant-loop-j decreases-loop-j
 loop-j-preserved c =
-    let L = c.before.before.before.loop-j in
-    let A = c.before.before.before.before.before.args in
+    let L = c.loop-j in
+    let A = c.args in
     let lx : length A.order.now ≡ 256 = search rules in
     let ld : length A.depth.now ≡ 256 = search rules in
     (omega arith, omega arith, L.invariant.2 ∙ ap (every_of (clip_holds A.kind.now A.clip.now A.transform.now A.point)) (turn_past L.d L.j A.order.now A.depth.now (omega arith) (omega arith) (omega arith) c.if-depth-j.false))
 
 returns : tie.Need-returns invariant-loop-j decreases-loop-j
 returns c =
-    let L = c.before.loop-j in
-    let A = c.before.before.before.args in
+    let L = c.loop-j in
+    let A = c.args in
     let z : L.j ≡ 0 = omega arith in
     sym (L.invariant.2 ∙ rw z (every_none (clip_holds A.kind.now A.clip.now A.transform.now A.point) L.d A.order.now A.depth.now))
 

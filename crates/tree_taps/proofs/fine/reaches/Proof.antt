@@ -26,7 +26,7 @@ contains-requires c κs = search rules
 
 returns : tie.Need-returns
 unfolding reaches
-returns c = rw (c.contains.ensures, c.before.inverse.ensures, c.before.before.insets_at-more.ensures, c.before.before.before.rect_at-area.ensures, c.before.before.before.before.affine_at-placed.ensures, c.before.before.before.before.before.clip_at-own.ensures)
+returns c = rw (c.contains.ensures, c.inverse.ensures, c.insets_at-more.ensures, c.rect_at-area.ensures, c.affine_at-placed.ensures, c.clip_at-own.ensures)
 
 pub reaches_spec : {M : Type 1} → statement M
 reaches_spec =

@@ -64,10 +64,10 @@ no_higher-requires c κs = search rules
 returns : tie.Need-returns
 unfolding stronger_at
 returns c =
-    let A = c.before.before.before.before.before.before.before.before.before.before.args in
+    let A = c.args in
     let by = to_z-of_z w32 (get_or A.level.now A.y (pos 0)) (search rules) in
     let bx = to_z-of_z w32 (get_or A.level.now A.x (pos 0)) (search rules) in
-    rw (c.no_higher.ensures, c.before.lower.ensures, by, bx, c.before.before.before.before.before.before.before.before.position-at_y.ensures.1, c.before.before.before.before.before.before.before.before.before.position-at_x.ensures.1)
+    rw (c.no_higher.ensures, c.lower.ensures, by, bx, c.position-at_y.ensures.1, c.position-at_x.ensures.1)
 
 pub stronger_spec : {M : Type 1} → statement M
 stronger_spec =

@@ -57,8 +57,8 @@ to_start c = c.before.before.before.before.before.before.before.before
 long : (c : tie.At-loop-j invariant-loop-j decreases-loop-j) → length c.loop-j.room ≡ length (to_start c).args.room.now
 long c =
     let A = (to_start c).args in
-    let P = c.before.before.before.put_id in
-    c.loop-j.invariant.3 ∙ ap length P.ensures ∙ put_length A.room.now (get_or A.depth.now A.at 0 - 1) c.before.before.before.before.before.id_of-own.result
+    let P = c.put_id in
+    c.loop-j.invariant.3 ∙ ap length P.ensures ∙ put_length A.room.now (get_or A.depth.now A.at 0 - 1) c.id_of-own.result
 
 overflow_sub-j : tie.Need-overflow_sub-j invariant-loop-j decreases-loop-j
 overflow_sub-j c = search rules
@@ -70,7 +70,7 @@ bounds-depth-j : tie.Need-bounds-depth-j invariant-loop-j decreases-loop-j
 bounds-depth-j c = search rules
 
 overflow_cast-e : tie.Need-overflow_cast-e invariant-loop-j decreases-loop-j
-overflow_cast-e c = let l = c.before.before in let s = to_start l in omega (arith, most s (l.loop-j.j - 1) (omega (arith, l.loop-j.invariant.0, s.pre.0, c.before.loop-j-test.true)), l.loop-j.invariant.0, s.pre.0, s.pre.1)
+overflow_cast-e c = let l = c.before.before in let s = to_start l in omega (arith, most s (l.loop-j.j - 1) (omega (arith, l.loop-j.invariant.0, s.pre.0, c.loop-j-test.true)), l.loop-j.invariant.0, s.pre.0, s.pre.1)
 
 offset_bounds-order-j : tie.Need-offset_bounds-order-j invariant-loop-j decreases-loop-j
 offset_bounds-order-j c = search rules
@@ -79,16 +79,16 @@ bounds-order-j : tie.Need-bounds-order-j invariant-loop-j decreases-loop-j
 bounds-order-j c = search rules
 
 id_of-next-requires : tie.Need-id_of-next-requires invariant-loop-j decreases-loop-j
-id_of-next-requires c κs = let l = c.before.before.before.before in (to_start l).pre.6 (l.loop-j.j - 1) (omega (arith, l.loop-j.invariant.0, (to_start l).pre.0, c.before.before.before.loop-j-test.true))
+id_of-next-requires c κs = let l = c.before.before.before.before in (to_start l).pre.6 (l.loop-j.j - 1) (omega (arith, l.loop-j.invariant.0, (to_start l).pre.0, c.loop-j-test.true))
 
 overflow_sub-d : tie.Need-overflow_sub-d invariant-loop-j decreases-loop-j
-overflow_sub-d c = let l = c.before.before.before.before.before.before in one (to_start l) (l.loop-j.j - 1) (omega (arith, l.loop-j.invariant.0, (to_start l).pre.0, c.before.before.before.before.before.loop-j-test.true))
+overflow_sub-d c = let l = c.before.before.before.before.before.before in one (to_start l) (l.loop-j.j - 1) (omega (arith, l.loop-j.invariant.0, (to_start l).pre.0, c.loop-j-test.true))
 
 put_id-requires-then-e-d : tie.Need-put_id-requires-then-e-d invariant-loop-j decreases-loop-j
 put_id-requires-then-e-d c κs =
     let l = c.before.before.before.before.before.before in
     let s = to_start l in
-    let h = c.before.before.before.before.before.loop-j-test.true in
+    let h = c.loop-j-test.true in
     let m = most s (l.loop-j.j - 1) (omega (arith, l.loop-j.invariant.0, s.pre.0, h)) in
     (omega (arith, m, l.loop-j.invariant.0, s.pre.0, s.pre.1, h), omega (arith, m, l.loop-j.invariant.0, s.pre.0, s.pre.1, h, long l, s.pre.7))
 
@@ -101,14 +101,14 @@ loop-j-preserved-then-e-d c =
     let L = l.loop-j in
     let s = to_start l in
     let A = s.args in
-    let h = c.before.before.before.before.before.before.before.before.loop-j-test.true in
-    let P = c.before.before.put_id-then-e-d in
-    let E = rw c.before.before.before.before.id_of-next.ensures at P.ensures in (
+    let h = c.loop-j-test.true in
+    let P = c.put_id-then-e-d in
+    let E = rw c.id_of-next.ensures at P.ensures in (
       omega (arith, L.invariant.0),
       one s (L.j - 1) (omega (arith, L.invariant.0, s.pre.0, h)),
       omega arith,
       ap length E ∙ put_length L.room (get_or A.depth.now (L.j - 1) 0 - 1) (id_of A.generation.now (get_or A.order.now (L.j - 1) 0)) ∙ L.invariant.3,
-      path_turn (id_of A.generation.now) A.count A.order.now A.depth.now s.pre.1 (omega (arith, s.pre.1, s.pre.3)) (omega (arith, s.pre.1, s.pre.4)) s.pre.5 L.room P.new.0 _ L.d L.j (omega (arith, h)) (omega (arith, L.invariant.0, s.pre.0)) c.before.before.before.before.before.before.if-e-d.true (omega (arith, long l, s.pre.7)) L.invariant.4 E,
+      path_turn (id_of A.generation.now) A.count A.order.now A.depth.now s.pre.1 (omega (arith, s.pre.1, s.pre.3)) (omega (arith, s.pre.1, s.pre.4)) s.pre.5 L.room P.new.0 _ L.d L.j (omega (arith, h)) (omega (arith, L.invariant.0, s.pre.0)) c.if-e-d.true (omega (arith, long l, s.pre.7)) L.invariant.4 E,
     )
 
 loop-j-smaller : tie.Need-loop-j-smaller invariant-loop-j decreases-loop-j
@@ -120,7 +120,7 @@ loop-j-preserved c =
     let L = l.loop-j in
     let s = to_start l in
     let A = s.args in
-    let h = c.before.before.loop-j-test.true in (
+    let h = c.loop-j-test.true in (
       omega (arith, L.invariant.0),
       L.invariant.1,
       c.if-e-d.false,
@@ -138,8 +138,8 @@ returns c =
     let L = l.loop-j in
     let s = to_start l in
     let A = s.args in
-    let P = l.before.before.before.put_id in
-    let E = rw l.before.before.before.before.before.id_of-own.ensures at P.ensures in
+    let P = l.put_id in
+    let E = rw l.id_of-own.ensures at P.ensures in
     path_ends (id_of A.generation.now) A.count A.order.now A.depth.now s.pre.1 (omega (arith, s.pre.1, s.pre.3)) (omega (arith, s.pre.1, s.pre.4)) s.pre.5 A.room.now P.new.0 L.room A.x A.at L.d L.j s.pre.0 s.pre.7 (omega (arith, c.loop-j-test.false)) E L.invariant.4
 
 pub write_path_spec : {M : Type 1} → statement M

@@ -11,7 +11,7 @@ identity-identity-requires c κs = search rules
 
 returns : tie.Need-returns
 unfolding of_bits of_fields odd
-returns c = rw (c.identity-identity.ensures, c.before.default-flags.ensures)
+returns c = rw (c.identity-identity.ensures, c.default-flags.ensures)
 
 pub default_spec : {M : Type 1} → statement M
 default_spec = tie.close (tie.spec default-flags-requires identity-identity-requires returns)

@@ -26,10 +26,10 @@ bounds-order-i : tie.Need-bounds-order-i invariant-loop-i decreases-loop-i
 bounds-order-i c = search rules
 
 overflow_cast-x : tie.Need-overflow_cast-x invariant-loop-i decreases-loop-i
-overflow_cast-x c = omega (arith, c.before.before.before.requires.2 c.before.before.loop-i.i (omega arith))
+overflow_cast-x c = omega (arith, c.requires.2 c.loop-i.i (omega arith))
 
 bounds-marked-x : tie.Need-bounds-marked-x invariant-loop-i decreases-loop-i
-bounds-marked-x c = omega (arith, c.before.before.before.requires.2 c.before.before.loop-i.i (omega arith))
+bounds-marked-x c = omega (arith, c.requires.2 c.loop-i.i (omega arith))
 
 overflow_add-i : tie.Need-overflow_add-i invariant-loop-i decreases-loop-i
 overflow_add-i c = search rules
@@ -40,11 +40,11 @@ loop-i-smaller c = search rules
 loop-i-preserved : tie.Need-loop-i-preserved invariant-loop-i decreases-loop-i
 loop-i-preserved c =
     let s = c.before.before.before.before in
-    let L = c.before.before.before.loop-i in
+    let L = c.loop-i in
     (omega arith, rw (any_more (λ x. get_or s.args.marked.now x false) s.args.order.now L.i (omega (arith, s.requires.0, s.requires.1)), ← L.invariant.1))
 
 returns : tie.Need-returns invariant-loop-i decreases-loop-i
-returns c = let L = c.before.loop-i in let e : L.i ≡ c.before.before.args.count = omega arith in rw (← e) L.invariant.1
+returns c = let L = c.loop-i in let e : L.i ≡ c.args.count = omega arith in rw (← e) L.invariant.1
 
 pub any_marked_spec : {M : Type 1} → statement M
 any_marked_spec =

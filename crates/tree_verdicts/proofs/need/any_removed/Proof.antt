@@ -29,12 +29,12 @@ loop-k-smaller c = search rules
 
 loop-k-preserved : tie.Need-loop-k-preserved invariant-loop-k decreases-loop-k
 loop-k-preserved c =
-    let L = c.before.before.loop-k in
-    let A = c.before.before.before.args in
+    let L = c.loop-k in
+    let A = c.args in
     (omega arith, rw (some_more (λ y. is_removed (get_or A.mark.now y 0)) L.k, ← L.invariant.1))
 
 returns : tie.Need-returns invariant-loop-k decreases-loop-k
-returns c = let L = c.before.loop-k in let e : L.k ≡ c.before.before.args.used = omega arith in rw (← e) L.invariant.1
+returns c = let L = c.loop-k in let e : L.k ≡ c.args.used = omega arith in rw (← e) L.invariant.1
 
 pub any_removed_spec : {M : Type 1} → statement M
 any_removed_spec =

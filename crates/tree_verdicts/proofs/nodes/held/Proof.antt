@@ -9,7 +9,7 @@ check-requires : tie.Need-check-requires
 check-requires c κs = search rules
 
 returns : tie.Need-returns
-returns c = rw (c.check.ensures, c.before.is_sound-sound.ensures)
+returns c = rw (c.check.ensures, c.is_sound-sound.ensures)
 
 pub held_spec : {M : Type 1} → statement M
 held_spec = tie.close (tie.spec is_sound-sound-requires check-requires returns)

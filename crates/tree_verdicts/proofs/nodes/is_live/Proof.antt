@@ -14,15 +14,15 @@ position-at-requires c κs = search rules
 
 returns-then-at-count : tie.Need-returns-then-at-count
 returns-then-at-count c =
-    let A = c.before.before.args in
-    let e = c.before.position-at.ensures.1 in
+    let A = c.args in
+    let e = c.position-at.ensures.1 in
     rw (le-ltb (index_of A.i.0 (take A.count A.order.now)) A.count (omega arith))
 
 -- the slot is in the table
-found : (c : tie.Else-at-count) → let A = c.before.before.args in ltb (index_of A.i.0 (take A.count A.order.now)) A.count ≡ true
+found : (c : tie.Else-at-count) → let A = c.args in ltb (index_of A.i.0 (take A.count A.order.now)) A.count ≡ true
 found c =
-    let A = c.before.before.args in
-    let e = c.before.position-at.ensures.1 in
+    let A = c.args in
+    let e = c.position-at.ensures.1 in
     lt-ltb (index_of A.i.0 (take A.count A.order.now)) A.count (omega arith)
 
 overflow_cast-x : tie.Need-overflow_cast-x
@@ -32,7 +32,7 @@ offset_bounds-generation-x : tie.Need-offset_bounds-generation-x
 offset_bounds-generation-x c = search rules
 
 bounds-generation-x : tie.Need-bounds-generation-x
-bounds-generation-x c = omega (arith, c.before.before.before.requires.2 c.before.before.before.args.i.0 (found c.before))
+bounds-generation-x c = omega (arith, c.requires.2 c.args.i.0 (found c.before))
 
 returns : tie.Need-returns
 returns c = rw (found c.before.before.before)

@@ -12,11 +12,11 @@ use Rattle.tree_verdicts.proofs.nodes.of_node.Tie as tie
 
 -- before the tables are lent
 abbrev start : tie.After-sound_tables-sound → tie.Start
-start c = c.before.before.before.before.before.before.before.before.before.before.before.before.before.before.before.before.before.before.before.before.before.before.before.before.before
+start c = c
 
 sound_tables-sound-requires : tie.Need-sound_tables-sound-requires
 sound_tables-sound-requires c κs =
-    let s = c.before.before.before.before.before.before.before.before.before.before.before.before.before.before.before.before.before.before.before.before.before.before.before.before in
+    let s = c in
     let l = sized s.args.t1 s.well_formed.0 in
     (l.order, l.depth, l.free, l.mark, l.entries_free, l.dirty)
 
@@ -25,7 +25,7 @@ check-v-requires c κs = search rules
 
 -- the first test is `held`
 told : (c : tie.After-check-v) → c.check-v.result ≡ held (start c.before).args.t1
-told c = c.check-v.ensures ∙ ap (λ (b : Bool). checked is.Accepted b no.Unsound) (c.before.sound_tables-sound.ensures (start c.before).args.t1)
+told c = c.check-v.ensures ∙ ap (λ (b : Bool). checked is.Accepted b no.Unsound) (c.sound_tables-sound.ensures (start c.before).args.t1)
 
 enum_told-1 : tie.Need-enum_told-1
 enum_told-1 c = search rules
@@ -35,21 +35,21 @@ enum_told-in_default c = search rules
 
 returns-in_default : tie.Need-returns-in_default
 returns-in_default c =
-    let h = c.before.before in
+    let h = c.before in
     let A = (start h.before).args in
-    checked_stopped (held A.t1) h.check-v.result (live A.t1 A.i) no.DeadNode c.enum_told-in_default-1.given.0.0 (told h) c.enum_told-in_default-1.given.1
+    checked_stopped (held A.t1) h.check-v.result (live A.t1 A.i) no.DeadNode c.in_default.field-0 (told h) c.in_default.is
 
 -- the tree is sound where the first test has accepted
-sound : (c : tie.In-Accepted) → Held (start c.before.before.before).args.t1
+sound : (c : tie.In-Accepted) → Held (start c.before.before).args.t1
 sound c =
-    let h = c.before.before in
+    let h = c.before in
     let s = start h.before in
-    held_accepted s.args.t1 (sized s.args.t1 s.good.0) (sym (told h) ∙ c.enum_told-1.given.1)
+    held_accepted s.args.t1 (sized s.args.t1 s.good.0) (sym (told h) ∙ c.in-Accepted.is)
 
 is_live-live-requires : tie.Need-is_live-live-requires
 is_live-live-requires c κs =
-    let e = c.before.before.before in
-    let s = start e.before.before.before in
+    let e = c in
+    let s = start e in
     live_needs s.args.t1 (sized s.args.t1 s.good.0) (sound e)
 
 check-requires : tie.Need-check-requires
@@ -57,7 +57,7 @@ check-requires c κs = search rules
 
 returns : tie.Need-returns
 unfolding live
-returns c = rw (c.check.ensures, c.before.is_live-live.ensures, ← told c.before.before.before.before.before.before.before)
+returns c = rw (c.check.ensures, c.is_live-live.ensures, ← told c.before.before.before.before.before.before)
 
 pub of_node_spec : {M : Type 1} → statement M
 of_node_spec =

@@ -14,8 +14,8 @@ enum_told-in_default c = search rules
 
 returns-in_default : tie.Need-returns-in_default
 returns-in_default c =
-    let A = c.before.before.args in
-    checked_stopped A.v A.v (parent_in A.order.now A.count A.generation.now A.parent) no.DeadParent c.enum_told-in_default-1.given.0.0 refl c.enum_told-in_default-1.given.1
+    let A = c.args in
+    checked_stopped A.v A.v (parent_in A.order.now A.count A.generation.now A.parent) no.DeadParent c.in_default.field-0 refl c.in_default.is
 
 enum_known-parent : tie.Need-enum_known-parent
 enum_known-parent c = search rules
@@ -26,20 +26,20 @@ enum_told-in_default-parent c = search rules
 -- no parent
 returns-in_default-parent : tie.Need-returns-in_default-parent
 returns-in_default-parent c =
-    let e = c.before.before in
-    let A = e.before.before.args in
-    e.enum_told-1.given.1 ∙ sym (checked_both A.v (parent_in A.order.now A.count A.generation.now A.parent) no.DeadParent e.enum_told-1.given.1 (rw c.enum_told-in_default-parent-1.given.1))
+    let e = c.before in
+    let A = e.args in
+    e.in-Accepted.is ∙ sym (checked_both A.v (parent_in A.order.now A.count A.generation.now A.parent) no.DeadParent e.in-Accepted.is (rw c.in_default-parent.is))
 
 is_live-live-requires : tie.Need-is_live-live-requires
 is_live-live-requires c κs =
-    let e = c.before.before.before in
-    e.before.before.requires e.enum_told-1.given.1
+    let e = c.before in
+    e.requires e.in-Accepted.is
 
 check-requires : tie.Need-check-requires
 check-requires c κs = search rules
 
 returns : tie.Need-returns
-returns c = rw (c.check.ensures, c.before.is_live-live.ensures, c.before.before.before.parent-1.given.1)
+returns c = rw (c.check.ensures, c.is_live-live.ensures, c.in-Some.is)
 
 pub of_parent_spec : {M : Type 1} → statement M
 of_parent_spec =

@@ -42,7 +42,7 @@ check-held-requires c κs = search rules
 
 -- the first test is `held`
 told : (c : tie.After-check-held) (t : Tree) → c.check-held.result ≡ held (tree c.before.before t)
-told c t = c.check-held.ensures ∙ ap (λ (b : Bool). checked is.Accepted b no.Unsound) (c.before.sound_tables-sound.ensures t)
+told c t = c.check-held.ensures ∙ ap (λ (b : Bool). checked is.Accepted b no.Unsound) (c.sound_tables-sound.ensures t)
 
 enum_told-1 : tie.Need-enum_told-1
 enum_told-1 c = search rules
@@ -54,14 +54,14 @@ enum_told-in_default c = search rules
 returns-in_default : tie.Need-returns-in_default
 returns-in_default c =
     λ t.
-    let h = c.before.before in
+    let h = c.before in
     let s = h.before.before in
     let A = s.args in
     let T = tree s t in
-    let q = c.enum_told-in_default-1.given.0.0 in
-    let e : held T ≡ is.Refused q = sym (told h t) ∙ c.enum_told-in_default-1.given.1 in
+    let q = c.in_default.field-0 in
+    let e : held T ≡ is.Refused q = sym (told h t) ∙ c.in_default.is in
     let a = checked_stays (held T) (known A.asked) no.UnknownFlags q e in
-    c.enum_told-in_default-1.given.1 ∙ sym (checked_stays (checked (held T) (known A.asked) no.UnknownFlags) (not (needs_commit T)) no.NeedsCommit q a)
+    c.in_default.is ∙ sym (checked_stays (checked (held T) (known A.asked) no.UnknownFlags) (not (needs_commit T)) no.NeedsCommit q a)
 
 is_known-requires : tie.Need-is_known-requires
 is_known-requires c κs = search rules
@@ -70,15 +70,15 @@ check-known-requires : tie.Need-check-known-requires
 check-known-requires c κs = search rules
 
 -- the tree is sound where the first test has accepted
-sound : (c : tie.In-Accepted) (t : Tree) → sound_tree (tree c.before.before.before.before t) ≡ true
+sound : (c : tie.In-Accepted) (t : Tree) → sound_tree (tree c.before.before.before t) ≡ true
 sound c t =
-    let h = c.before.before in
-    (checked_accepted is.Accepted (sound_tree (tree h.before.before t)) no.Unsound (sym (told h t) ∙ c.enum_told-1.given.1)).1
+    let h = c.before in
+    (checked_accepted is.Accepted (sound_tree (tree h.before.before t)) no.Unsound (sym (told h t) ∙ c.in-Accepted.is)).1
 
 needs-need-requires : tie.Need-needs-need-requires
 needs-need-requires c κs =
     let e = c.before.before in
-    let s = e.before.before.before.before in
+    let s = e.before.before.before in
     let p = sound_places (tree s fresh_tree) (sizes s fresh_tree) (sound e fresh_tree) in
     let u = sound_used (tree s fresh_tree) (sizes s fresh_tree) (sound e fresh_tree) in
     (p.0, p.1, p.2, u.0, u.1)
@@ -90,8 +90,8 @@ returns : tie.Need-returns
 unfolding needs_commit
 returns c =
     λ t.
-    let h = c.before.before.before.before.before.before in
-    rw (c.check.ensures, c.before.needs-need.ensures, c.before.before.check-known.ensures, c.before.before.before.is_Known.ensures, ← told h t)
+    let h = c.before.before.before.before.before in
+    rw (c.check.ensures, c.needs-need.ensures, c.check-known.ensures, c.is_Known.ensures, ← told h t)
 
 pub asked_verdict_spec : {M : Type 1} → statement M
 asked_verdict_spec =

@@ -16,21 +16,21 @@ lens : (c : tie.Start) → (length c.args.ix.mark ≡ 512) × (length c.args.ix.
 lens c = (search rules, search rules, search rules)
 
 -- what the passed test of soundness tells
-sound_here : (c : tie.Else-not-is_sound) → let ix = c.before.before.before.before.before.before.before.before.before.before.before.before.before.before.before.before.before.before.args.ix in SoundOf ix.mark ix.free ix.frees ix.dirty ix.queued ix.used
+sound_here : (c : tie.Else-not-is_sound) → let ix = c.args.ix in SoundOf ix.mark ix.free ix.frees ix.dirty ix.queued ix.used
 sound_here c =
     let S = c.before.before.before.before.before.before.before.before.before.before.before.before.before.before.before.before.before.before in
     let ix = S.args.ix in
     (decides ix.mark ix.free ix.frees ix.dirty ix.queued ix.used (lens S).0 (lens S).1 (lens S).2).0
-    (sym c.before.is_sound.ensures ∙ not-false c.before.is_sound.result c.if-not-is_sound.false)
+    (sym c.is_sound.ensures ∙ not-false c.is_sound.result c.if-not-is_sound.false)
 
 is_sound-requires : tie.Need-is_sound-requires
 is_sound-requires c κs = search rules
 
 returns-then-not-is_sound : tie.Need-returns-then-not-is_sound
 returns-then-not-is_sound c =
-    let A = c.before.before.before.before.before.before.before.before.before.before.before.before.before.before.before.before.before.before.args in
+    let A = c.args in
     let call = commit (length A.added.now) (length A.removed.now) (length A.old.now) (length A.new.now) in
-    let e = unsound A.ix (rw (← c.before.is_sound.ensures) c.if-not-is_sound.true) call in
+    let e = unsound A.ix (rw (← c.is_sound.ensures) c.if-not-is_sound.true) call in
     let R = refuses A.ix call 0 e in
     (R.0, (R.1, rooms_stay A.ix A.added.now A.removed.now A.old.now A.new.now 0 e))
 
@@ -51,15 +51,15 @@ shape_of-new-then-short c = search rules
 
 returns-then-short : tie.Need-returns-then-short
 returns-then-short c =
-    let A = c.before.before.before.before.before.before.before.before.before.before.before.before.before.before.before.before.before.before.before.before.before.before.before.before.args in
+    let A = c.args in
     let call = commit (length A.added.now) (length A.removed.now) (length A.old.now) (length A.new.now) in
-    let S : not (sound_index A.ix) ≡ false = rw (← c.before.before.before.before.before.before.before.is_sound.ensures) c.before.before.before.before.before.before.if-not-is_sound.false in
-    let e = commit_short A.ix S (length A.added.now) (length A.removed.now) (length A.old.now) (length A.new.now) (sym c.before.short.ensures ∙ c.if-short.true) in
+    let S : not (sound_index A.ix) ≡ false = rw (← c.is_sound.ensures) c.if-not-is_sound.false in
+    let e = commit_short A.ix S (length A.added.now) (length A.removed.now) (length A.old.now) (length A.new.now) (sym c.short.ensures ∙ c.if-short.true) in
     let R = refuses A.ix call 7 e in
     (R.0, (R.1, rooms_stay A.ix A.added.now A.removed.now A.old.now A.new.now 7 e))
 
 commit_slots-d-requires : tie.Need-commit_slots-d-requires
-commit_slots-d-requires c κs = let S = c.before.before.before.before.before.before.before.before.before.before.before.before.before.before.before.before.before.before.before.before.before.before.before.before.before.before.before.before.before.before.before.before.before.before.before.before.before.before in let A = S.args in let l = long (length A.added.now) (length A.removed.now) (length A.old.now) (length A.new.now) (sym c.before.before.before.before.before.before.before.before.before.before.before.before.before.before.before.short.ensures ∙ c.before.before.before.before.before.before.before.before.before.before.before.before.before.before.if-short.false) in ((lens S).0, (lens S).1, (lens S).2, l.0, l.1, l.2, l.3, (A.ix.used, sound_here c.before.before.before.before.before.before.before.before.before.before.before.before.before.before.before.before.before.before.before.before))
+commit_slots-d-requires c κs = let S = c in let A = S.args in let l = long (length A.added.now) (length A.removed.now) (length A.old.now) (length A.new.now) (sym c.short.ensures ∙ c.if-short.false) in ((lens S).0, (lens S).1, (lens S).2, l.0, l.1, l.2, l.3, (A.ix.used, sound_here c.before.before.before.before.before.before.before.before.before.before.before.before.before.before.before.before.before.before.before.before))
 
 shape_of-added : tie.Need-shape_of-added
 shape_of-added c = search rules
@@ -76,11 +76,11 @@ shape_of-new c = search rules
 returns : tie.Need-returns
 unfolding work_of
 returns c =
-    let A = c.before.before.before.before.before.before.before.before.before.before.before.before.before.before.before.before.before.before.before.before.before.before.before.before.before.before.before.before.before.before.before.before.before.before.before.before.before.before.before.before.before.before.before.before.before.before.before.args in
-    let S : not (sound_index A.ix) ≡ false = rw (← c.before.before.before.before.before.before.before.before.before.before.before.before.before.before.before.before.before.before.before.before.before.before.before.before.before.before.before.before.before.before.is_sound.ensures) c.before.before.before.before.before.before.before.before.before.before.before.before.before.before.before.before.before.before.before.before.before.before.before.before.before.before.before.before.before.if-not-is_sound.false in
-    let F = sym c.before.before.before.before.before.before.before.before.before.before.before.before.before.before.before.before.before.before.before.before.before.before.before.before.short.ensures ∙ c.before.before.before.before.before.before.before.before.before.before.before.before.before.before.before.before.before.before.before.before.before.before.before.if-short.false in
+    let A = c.args in
+    let S : not (sound_index A.ix) ≡ false = rw (← c.is_sound.ensures) c.if-not-is_sound.false in
+    let F = sym c.short.ensures ∙ c.if-short.false in
     let e = commit_long A.ix S (length A.added.now) (length A.removed.now) (length A.old.now) (length A.new.now) F in
-    let T = c.before.before.before.before.before.before.before.before.commit_slots-d in
+    let T = c.commit_slots-d in
     let D = commit_done A.ix A.added.now A.removed.now A.old.now A.new.now e _ _ _ _ _ T.result T.ensures.0 in
     (D.0, (D.1, rooms_done A.ix A.added.now A.removed.now A.old.now A.new.now e _ _ _ _ T.ensures.1))
 

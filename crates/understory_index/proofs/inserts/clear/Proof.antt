@@ -10,8 +10,8 @@ is_sound-requires c κs = search rules
 
 returns-then-not-is_sound : tie.Need-returns-then-not-is_sound
 returns-then-not-is_sound c =
-    let ix = c.before.before.before.before.before.before.args.t1 in
-    refuses ix clear 0 (unsound ix (rw (← c.before.is_sound.ensures) c.if-not-is_sound.true) clear)
+    let ix = c.args.t1 in
+    refuses ix clear 0 (unsound ix (rw (← c.is_sound.ensures) c.if-not-is_sound.true) clear)
 
 fresh-empty-requires : tie.Need-fresh-empty-requires
 fresh-empty-requires c κs = search rules
@@ -19,8 +19,8 @@ fresh-empty-requires c κs = search rules
 returns : tie.Need-returns
 unfolding accepted given
 returns c =
-    let ix = c.before.before.before.before.before.before.before.args.t1 in
-    let A = accepts ix clear (clear_any ix (rw (← c.before.before.is_sound.ensures) c.before.if-not-is_sound.false)) in
+    let ix = c.args.t1 in
+    let A = accepts ix clear (clear_any ix (rw (← c.is_sound.ensures) c.if-not-is_sound.false)) in
     (A.0, c.fresh-empty.ensures ∙ A.1)
 
 pub clear_spec : {M : Type 1} → statement M

@@ -15,9 +15,9 @@ shape_of-room c = search rules
 
 returns : tie.Need-returns
 returns c =
-    let A = c.before.before.before.before.before.before.args in
-    let Q = c.before.before.query_rect.ensures in
-    rw (← point_of_lem A.ix A.x A.y, ← point_told A.ix A.x A.y (length A.room.now), ← c.before.before.before.before.new.ensures) (Q.0, Q.1)
+    let A = c.args in
+    let Q = c.query_rect.ensures in
+    rw (← point_of_lem A.ix A.x A.y, ← point_told A.ix A.x A.y (length A.room.now), ← c.new.ensures) (Q.0, Q.1)
 
 pub query_point_spec : {M : Type 1} → statement M
 query_point_spec = tie.close (tie.spec new-requires query_rect-requires shape_of-room returns)

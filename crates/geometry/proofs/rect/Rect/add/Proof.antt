@@ -8,7 +8,7 @@ abs-r-requires c κs = search rules
 
 returns : tie.Need-returns
 unfolding plus_insets
-returns c = rw c.before.before.before.before.before.before.before.before.abs-r.ensures
+returns c = rw c.abs-r.ensures
 
 pub add_spec : {M : Type 1} → statement M
 add_spec = tie.close (tie.spec abs-r-requires returns)

@@ -23,7 +23,7 @@ max-requires-2 c κs = search rules
 
 returns : tie.Need-returns
 unfolding intersection
-returns c = rw (c.max-2.ensures, c.before.max.ensures, c.before.before.min-y1.ensures, c.before.before.before.min-x1.ensures, c.before.before.before.before.max-y0.ensures, c.before.before.before.before.before.max-x0.ensures)
+returns c = rw (c.max-2.ensures, c.max.ensures, c.min-y1.ensures, c.min-x1.ensures, c.max-y0.ensures, c.max-x0.ensures)
 
 pub intersect_spec : {M : Type 1} → statement M
 intersect_spec =

@@ -14,7 +14,7 @@ enum_told-1 c = search rules
 
 returns-in_default : tie.Need-returns-in_default
 unfolding constructed
-returns-in_default c = rw (constructed, ← c.before.before.rect.ensures, c.enum_told-1.given.1)
+returns-in_default c = rw (constructed, ← c.rect.ensures, c.in_default.is)
 
 abs-r-requires : tie.Need-abs-r-requires
 abs-r-requires c κs = search rules
@@ -30,7 +30,7 @@ shape-requires c κs = search rules
 
 returns : tie.Need-returns
 unfolding constructed
-returns c = rw (constructed, ← c.before.before.before.before.before.before.before.rect.ensures, c.before.before.before.before.before.given-1.given.1, c.shape.ensures, c.before.fit.ensures, c.before.before.radii.ensures, c.before.before.before.abs-r.ensures)
+returns c = rw (constructed, ← c.rect.ensures, c.in-Some.is, c.shape.ensures, c.fit.ensures, c.radii.ensures, c.abs-r.ensures)
 
 pub construct_spec : {M : Type 1} → statement M
 construct_spec =

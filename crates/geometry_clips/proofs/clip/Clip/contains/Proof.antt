@@ -14,7 +14,7 @@ enum_told-1 c = search rules
 
 returns-in_default : tie.Need-returns-in_default
 unfolding inside
-returns-in_default c = rw (inside, ← c.before.before.rect.ensures, c.enum_told-1.given.1)
+returns-in_default c = rw (inside, ← c.rect.ensures, c.in_default.is)
 
 radii-requires : tie.Need-radii-requires
 radii-requires c κs = search rules
@@ -24,7 +24,7 @@ winding-requires c κs = search rules
 
 returns : tie.Need-returns
 unfolding inside
-returns c = rw (inside, ← c.before.before.before.before.before.rect.ensures, c.before.before.before.r-1.given.1, c.winding.ensures, c.before.radii.ensures)
+returns c = rw (inside, ← c.rect.ensures, c.in-Some.is, c.winding.ensures, c.radii.ensures)
 
 pub contains_spec : {M : Type 1} → statement M
 contains_spec =

@@ -17,7 +17,7 @@ is_finite-requires-2 c κs = search rules
 
 returns : tie.Need-returns
 unfolding finite_clip
-returns c = rw (c.is_finite-2.ensures, c.before.radii.ensures, c.before.before.is_finite.ensures, c.before.before.before.rect.ensures)
+returns c = rw (c.is_finite-2.ensures, c.radii.ensures, c.is_finite.ensures, c.rect.ensures)
 
 pub is_finite_spec : {M : Type 1} → statement M
 is_finite_spec =

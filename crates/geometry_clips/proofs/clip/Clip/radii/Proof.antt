@@ -21,15 +21,15 @@ new-requires-in-None c κs = search rules
 
 returns-in-Rounded : tie.Need-returns-in-Rounded
 unfolding clip_radii of_bits of_fields odd
-returns-in-Rounded c = rw c.before.self-1.given.1
+returns-in-Rounded c = rw c.in-Rounded.is
 
 returns-in-Square : tie.Need-returns-in-Square
 unfolding clip_radii of_bits of_fields odd
-returns-in-Square c = rw (c.before.enum_told-1.given.1, c.new.ensures)
+returns-in-Square c = rw (c.in-Square.is, c.new.ensures)
 
 returns-in-None : tie.Need-returns-in-None
 unfolding clip_radii of_bits of_fields odd
-returns-in-None c = rw (c.before.enum_told-in-None-1.given.1, c.new-in-None.ensures)
+returns-in-None c = rw (c.in-None.is, c.new-in-None.ensures)
 
 pub radii_spec : {M : Type 1} → statement M
 radii_spec =

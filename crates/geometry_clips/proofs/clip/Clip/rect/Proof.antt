@@ -18,11 +18,11 @@ returns-in-None c = search rules
 
 returns-in-Square : tie.Need-returns-in-Square
 unfolding clip_rect
-returns-in-Square c = rw c.before.self-1.given.1
+returns-in-Square c = rw c.in-Square.is
 
 returns-in-Rounded : tie.Need-returns-in-Rounded
 unfolding clip_rect
-returns-in-Rounded c = rw c.before.self-in-Rounded-1.given.1
+returns-in-Rounded c = rw c.in-Rounded.is
 
 pub rect_spec : {M : Type 1} → statement M
 rect_spec =

@@ -26,19 +26,19 @@ eq-requires c κs = search rules
 
 returns-in-None-other : tie.Need-returns-in-None-other
 unfolding clip_rect_eq
-returns-in-None-other c = rw (c.before.before.enum_told-1.given.1, c.enum_told-in-None-other-1.given.1)
+returns-in-None-other c = rw (c.in-None.is, c.in-None-other.is)
 
 returns-in-Some-other : tie.Need-returns-in-Some-other
 unfolding clip_rect_eq
-returns-in-Some-other c = rw (c.before.before.enum_told-1.given.1, c.enum_told-in-Some-other-1.given.1)
+returns-in-Some-other c = rw (c.in-None.is, c.in-Some-other.is)
 
 returns-in-None-other-2 : tie.Need-returns-in-None-other-2
 unfolding clip_rect_eq
-returns-in-None-other-2 c = rw (c.before.before.before.self-1.given.1, c.enum_told-in-None-other-2-1.given.1)
+returns-in-None-other-2 c = rw (c.in-Some.is, c.in-None-other-2.is)
 
 returns-in-Some-other-2 : tie.Need-returns-in-Some-other-2
 unfolding clip_rect_eq
-returns-in-Some-other-2 c = rw (c.before.before.before.before.before.self-1.given.1, c.before.before.other-1.given.1, c.eq.ensures)
+returns-in-Some-other-2 c = rw (c.in-Some.is, c.in-Some-other-2.is, c.eq.ensures)
 
 pub eq_spec : {M : Type 1} → statement M
 eq_spec =

@@ -14,11 +14,11 @@ is_finite-requires c κs = search rules
 
 returns-in-None : tie.Need-returns-in-None
 unfolding finite_clip_rect
-returns-in-None c = rw c.enum_told-1.given.1
+returns-in-None c = rw c.in-None.is
 
 returns-in-Some : tie.Need-returns-in-Some
 unfolding finite_clip_rect
-returns-in-Some c = rw (c.before.before.self-1.given.1, c.is_finite.ensures)
+returns-in-Some c = rw (c.in-Some.is, c.is_finite.ensures)
 
 pub is_finite_spec : {M : Type 1} → statement M
 is_finite_spec =

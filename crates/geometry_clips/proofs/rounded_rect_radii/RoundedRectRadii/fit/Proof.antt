@@ -39,7 +39,7 @@ min-requires-4 c κs = search rules
 
 returns : tie.Need-returns
 unfolding fitted of_bits of_fields odd
-returns c = rw (c.min-4.ensures, c.before.abs-4.ensures, c.before.before.min-3.ensures, c.before.before.before.abs-3.ensures, c.before.before.before.before.min-2.ensures, c.before.before.before.before.before.abs-2.ensures, c.before.before.before.before.before.before.min.ensures, c.before.before.before.before.before.before.before.abs.ensures, c.before.before.before.before.before.before.before.before.min-cap.ensures, c.before.before.before.before.before.before.before.before.before.height.ensures, c.before.before.before.before.before.before.before.before.before.before.width.ensures)
+returns c = rw (c.min-4.ensures, c.abs-4.ensures, c.min-3.ensures, c.abs-3.ensures, c.min-2.ensures, c.abs-2.ensures, c.min.ensures, c.abs.ensures, c.min-cap.ensures, c.height.ensures, c.width.ensures)
 
 pub fit_spec : {M : Type 1} → statement M
 fit_spec =
