@@ -27,7 +27,7 @@ pub(crate) enum Count {
 pub(crate) fn name_end(line: &[u8]) -> usize
     ensures { IsPrefixLen result line.now }
 {
-    let end = bytes::scan::find(line, 0, line.len(), b' ');
+    let end = byte_search::find(line, 0, line.len(), b' ');
     if end <= 24 { end } else { 24 }
 }
 

@@ -25,7 +25,7 @@ fn put_word(room: &mut [u8]) -> usize
     requires { 8 ≤ length room.old }
     ensures { Stored room.old room.new 0 result (text.bytes "refused ") }
 {
-    bytes::copy(b"refused ", room)
+    byte_search::copy(b"refused ", room)
 }
 
 // Inner: one line only, the word, the number and the line.

@@ -10,7 +10,7 @@ fn put_number(room: &mut [u8], at: usize, n: usize) -> usize
 {
     let mut digits = [0u8; 20];
     let k = io::decimal(n as u64, &mut digits);
-    at + bytes::copy(&digits[..k], &mut room[at..])
+    at + byte_search::copy(&digits[..k], &mut room[at..])
 }
 
 // A number below 10,000, and a byte behind it.

@@ -9,7 +9,7 @@ use lib.Dec.{leb, eqb}
 use lib.IntN.{ℤ}
 use lib.ListN.{length, take, drop, length-drop, drop_of_length-le}
 use lib.Seq.{take-length, length-take-le, drop-drop}
-use Rattle.bytes.specs.Bytes.{slice, index_of, index_after}
+use Rattle.byte_search.specs.Bytes.{slice, index_of, index_after}
 use Rattle.sheet_lines.specs.Lines.{line_width, Numbers, malformed, numbers, fields, without, line, beginning, cut, behind}
 use Rattle.sheet_lines.specs.Saturated.{saturated_numbers, unfit, row, followed, first_of, first_fields, told_line}
 use Rattle.sheet_lines.specs.declared.LineRow.{LineRow}

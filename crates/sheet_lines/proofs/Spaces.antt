@@ -10,7 +10,7 @@ use lib.Dec.{leb, eqb, leb-suc-suc, leb-zero}
 use lib.IntN.{ℤ}
 use lib.ListN.{length, take, drop, set, length-drop, length-append, length-map, length-set}
 use lib.Seq.{take-length, drop-drop, take-suc-set, length-take-le}
-use Rattle.bytes.specs.Bytes.{slice, index_of, index_after}
+use Rattle.byte_search.specs.Bytes.{slice, index_of, index_after}
 use Rattle.sheet_lines.specs.Lines.{Decimal, line_width, Numbers, malformed, whole, numbers, decimal, on_first, words_of, with_first, numbers_of, of_width, fields}
 use Rattle.sheet_lines.specs.Saturated.{saturated, saturated_decimal, saturated_numbers}
 

@@ -137,7 +137,7 @@ fn row_of(line: &[u8], width: usize) -> Row
         if at > line.len() {
             return no_row();
         }
-        let end = bytes::scan::find(line, at, line.len(), b' ');
+        let end = byte_search::find(line, at, line.len(), b' ');
         let w = number_of(&line[at..end]);
         if !w.good {
             return no_row();
@@ -171,7 +171,7 @@ pub fn fields_at(s: &[u8], at: usize, width: usize) -> LineRow
     if at > s.len() {
         return no_line(at);
     }
-    let end = bytes::scan::find(s, at, s.len(), b'\n');
+    let end = byte_search::find(s, at, s.len(), b'\n');
     if end >= s.len() {
         return no_line(at);
     }

@@ -40,7 +40,7 @@ pub fn count(line: &[u8]) -> usize
     let mut n = 0;
     let mut at = 0;
     while at <= line.len() {
-        let end = bytes::scan::find(line, at, line.len(), b' ');
+        let end = byte_search::find(line, at, line.len(), b' ');
         n += 1;
         at = end + 1;
     }
@@ -167,7 +167,7 @@ fn read_signed(s: &[u8]) -> Signed
 fn read_pair(s: &[u8]) -> Pair
     ensures { result.is_read ≡ false → (result.index ≡ 0) × (result.generation ≡ 0) }
 {
-    let colon = bytes::scan::find(s, 0, s.len(), b':');
+    let colon = byte_search::find(s, 0, s.len(), b':');
     if colon >= s.len() {
         return Pair {
             is_read: false,
@@ -196,7 +196,7 @@ pub fn decimal_at(line: &[u8], word: usize) -> Whole
     ensures { result.is_read ≡ false → result.value ≡ 0 }
 {
     let from = start(line, word);
-    let end = bytes::scan::find(line, from, line.len(), b' ');
+    let end = byte_search::find(line, from, line.len(), b' ');
     read_decimal(&line[from..end])
 }
 
@@ -204,7 +204,7 @@ pub fn byte_at(line: &[u8], word: usize) -> Byte
     ensures { result.is_read ≡ false → result.value ≡ 0 }
 {
     let from = start(line, word);
-    let end = bytes::scan::find(line, from, line.len(), b' ');
+    let end = byte_search::find(line, from, line.len(), b' ');
     read_byte(&line[from..end])
 }
 
@@ -212,7 +212,7 @@ pub fn signed_at(line: &[u8], word: usize) -> Signed
     ensures { result.is_read ≡ false → result.value ≡ pos 0 }
 {
     let from = start(line, word);
-    let end = bytes::scan::find(line, from, line.len(), b' ');
+    let end = byte_search::find(line, from, line.len(), b' ');
     read_signed(&line[from..end])
 }
 
@@ -220,6 +220,6 @@ pub fn pair_at(line: &[u8], word: usize) -> Pair
     ensures { result.is_read ≡ false → (result.index ≡ 0) × (result.generation ≡ 0) }
 {
     let from = start(line, word);
-    let end = bytes::scan::find(line, from, line.len(), b' ');
+    let end = byte_search::find(line, from, line.len(), b' ');
     read_pair(&line[from..end])
 }

@@ -55,7 +55,7 @@ fn cut(block: &[u8], space: &mut Space, held: usize, at: usize, end: usize) -> I
     requires at_lt_end { at < end }
     requires end_in_bounds { end ≤ length block.now }
 {
-    let stop = bytes::scan::find(block, at, end, b'\n');
+    let stop = byte_search::find(block, at, end, b'\n');
     let length = hold(space, held, &block[at..stop]);
     Input {
         at: stop + 1,

@@ -27,7 +27,7 @@ pub fn place(names: &[u8], name: &[u8]) -> usize
     let mut k = 0;
     let mut at = 0;
     while at < names.len() {
-        let end = bytes::scan::find(names, at, names.len(), b' ');
+        let end = byte_search::find(names, at, names.len(), b' ');
         if check::same(name, &names[at..end]) {
             return k;
         }

@@ -31,7 +31,7 @@ pub fn start(line: &[u8], word: usize) -> usize
     let mut at = 0;
     let mut left = word;
     while left > 0 {
-        let end = bytes::scan::find(line, at, line.len(), b' ');
+        let end = byte_search::find(line, at, line.len(), b' ');
         if end >= line.len() {
             return end;
         }
@@ -46,7 +46,7 @@ pub fn which(names: &[u8], line: &[u8], word: usize) -> usize
     ensures { Place (spec.word_at word line.now) (parted names.now) result }
 {
     let from = start(line, word);
-    let end = bytes::scan::find(line, from, line.len(), b' ');
+    let end = byte_search::find(line, from, line.len(), b' ');
     spelling::place(names, &line[from..end])
 }
 
@@ -70,7 +70,7 @@ pub fn number_at(line: &[u8], word: usize) -> Number
     ensures { result ≡ spec.number_at word line.now }
 {
     let from = start(line, word);
-    let end = bytes::scan::find(line, from, line.len(), b' ');
+    let end = byte_search::find(line, from, line.len(), b' ');
     read_number(&line[from..end])
 }
 

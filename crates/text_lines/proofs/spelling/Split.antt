@@ -1,7 +1,7 @@
 -- Names parted by spaces: the first one and the rest, and the place of a name while the ones before it are passed. Assumes nothing.
 use Rattle.std.proofs.Common.{◌≡◌, ℕ, suc, ◌+◌, ◌-◌, ◌<◌, ◌≤◌, Bool, true, false, cond, eqb, List, [], ◌∷◌, length, take, drop, sym, refl, ap, add-zero, arith, length-drop, drop_of_length-le, drop-drop}
 use lib.Seq.{take-length}
-use Rattle.bytes.specs.Bytes.{slice, index_of, index_after}
+use Rattle.byte_search.specs.Bytes.{slice, index_of, index_after}
 use Rattle.text_lines.specs.spelling.Words.{on_first, parted, Place, none, here, later}
 
 split : (e : Bool) (b : ℕ) (s : List ℕ)

@@ -1,7 +1,7 @@
 -- The words of a line, found space by space. Assumes nothing.
 use Rattle.std.proofs.Common.{◌≡◌, ℕ, zero, suc, ◌+◌, ◌-◌, ◌<◌, ◌≤◌, List, [], length, take, drop, sym, refl, ap, ◌∙◌, arith, drop_of_length-le, drop-drop}
 use lib.Seq.{take-length}
-use Rattle.bytes.specs.Bytes.{slice, index_of}
+use Rattle.byte_search.specs.Bytes.{slice, index_of}
 use Rattle.text_lines.specs.words.Lines.{from, word_at}
 
 from_empty : (k : ℕ) → from k [] ≡ []

@@ -1,7 +1,7 @@
 -- The words of a line, one space apart and counted from 0, and the numbers that they spell. A byte is its ASCII code.
 use Rattle.std.specs.Prelude.{ℕ, zero, suc, ◌+◌, true, false, ◌&&◌, List, take, drop, from_bits}
 use Rattle.std.specs.Float.{binary64}
-use Rattle.bytes.specs.Bytes.{index_of}
+use Rattle.byte_search.specs.Bytes.{index_of}
 use Rattle.text_lines.specs.spelling.Words.{pattern_of}
 use Rattle.text_lines.specs.declared.spelling.Word.{Word}
 use Rattle.text_lines.specs.declared.spelling.Word.TheVariants as is
