@@ -9,10 +9,10 @@ use Rattle.index_query.proofs.push_entry.Statement.{statement}
 use Rattle.index_query.proofs.push_entry.Tie as tie
 
 returns-then-not-take : tie.Need-returns-then-not-take
-returns-then-not-take c = rw (not-true c.args.take c.if-not-take.true) refl
+returns-then-not-take c = rw c.if-not-take.true refl
 
 returns : tie.Need-returns
-returns c = rw (not-false c.args.take c.if-not-take.false) (simp (add-one, plus_2, plus_3))
+returns c = rw c.if-not-take.false (simp (add-one, plus_2, plus_3))
 
 pub push_entry_spec : {M : Type 1} → statement M
 push_entry_spec =

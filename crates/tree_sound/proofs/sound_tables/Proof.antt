@@ -36,7 +36,7 @@ module _ (c : tie.Else-not-live) where
   start = c.before.before
 
   passed : c.before.count-slots.result.ok ≡ true
-  passed = not-false c.before.count-slots.result.ok c.if1.false
+  passed = c.if1.false
 
   right : let A = start.args in slots_right A.order.now A.links-count A.slots_free.now A.slots-frees A.slots_used ≡ true
   right = sym c.before.count-slots.ensures.0 ∙ passed
@@ -66,7 +66,7 @@ module _ (c : tie.Else-not-index) where
   from = start (slots_passed c)
 
   sound : let A = from.args in sound_of A.mark.now A.index_free.now A.index-frees A.dirty.now A.queued A.index-used ≡ true
-  sound = sym c.before.is-sound.ensures ∙ not-false c.before.is-sound.result c.if2.false
+  sound = sym c.before.is-sound.ensures ∙ c.if2.false
 
   fits : from.args.index-used ≤ 512
   fits =
@@ -80,7 +80,7 @@ count_slots-live-requires c κs = (c.requires.0, c.requires.2)
 returns-then-not-live : tie.Need-returns-then-not-live
 returns-then-not-live c =
     let k = c.before in
-    λ t. sym (unsound_slots (tree k.before t) (sym k.count_slots-live.ensures.0 ∙ not-true k.count_slots-live.result.ok c.if-not-live.true))
+    λ t. sym (unsound_slots (tree k.before t) (sym k.count_slots-live.ensures.0 ∙ c.if-not-live.true))
 
 depths_ok-shape-requires : tie.Need-depths_ok-shape-requires
 depths_ok-shape-requires c κs = (fit c, c.requires.1)
@@ -91,7 +91,7 @@ is_sound-index-requires c κs = (c.requires.4, c.requires.5)
 returns-then-not-index : tie.Need-returns-then-not-index
 returns-then-not-index c =
     let i = c.before in
-    λ t. sym (unsound_index (tree i.before.before.before.before t) (sym i.is_sound-index.ensures ∙ not-true i.is_sound-index.result c.if-not-index.true))
+    λ t. sym (unsound_index (tree i.before.before.before.before t) (sym i.is_sound-index.ensures ∙ c.if-not-index.true))
 
 values_right-values-requires : tie.Need-values_right-values-requires
 values_right-values-requires c κs = listed (slots_passed c)

@@ -64,7 +64,7 @@ returns-then-not-need : tie.Need-returns-then-not-need
 returns-then-not-need c =
     let N = c.before in
     let A = (begins N).args in
-    clean A.t A.room.now (sym (told N) ∙ not-true N.needs-need.result c.if-not-need.true)
+    clean A.t A.room.now (sym (told N) ∙ c.if-not-need.true)
 
 put_pending-requires : tie.Need-put_pending-requires
 put_pending-requires c κs = let S = begins c.before.before.before.before in ((sound_here S).pending_fits, S.pre.1, (whole_here S).pending)

@@ -7,11 +7,11 @@ use Rattle.tree_listings.proofs.entries.push_id.Statement.{statement}
 use Rattle.tree_listings.proofs.entries.push_id.Tie as tie
 
 returns-then-not-take : tie.Need-returns-then-not-take
-returns-then-not-take c = rw (not-true c.args.take c.if-not-take.true) (refl, refl)
+returns-then-not-take c = rw c.if-not-take.true (refl, refl)
 
 -- the id is taken
 taken : (c : tie.Else-not-take) → let A = c.args in (A.n < 256) × (A.x < 256)
-taken c = c.requires.0 (not-false c.args.take c.if-not-take.false)
+taken c = c.requires.0 c.if-not-take.false
 
 id_of-id-requires : tie.Need-id_of-id-requires
 id_of-id-requires c κs = (taken c).1
@@ -29,7 +29,7 @@ returns : tie.Need-returns
 returns c =
     let i = c.before.before.before.before in
     let e = i.before in
-    rw (not-false e.args.take e.if-not-take.false, ← i.id_of-id.ensures) (c.put_id.ensures, refl)
+    rw (e.if-not-take.false, ← i.id_of-id.ensures) (c.put_id.ensures, refl)
 
 pub push_id_spec : {M : Type 1} → statement M
 push_id_spec = tie.close (tie.spec returns-then-not-take id_of-id-requires put_id-requires overflow_add-result shape_of-room returns)

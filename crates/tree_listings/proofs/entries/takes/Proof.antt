@@ -13,11 +13,11 @@ visited-visited-requires : tie.Need-visited-visited-requires
 visited-visited-requires c κs = search rules
 
 returns-then-not-visited : tie.Need-returns-then-not-visited
-returns-then-not-visited c = let v = c.visited-visited in rw (← v.ensures, not-true v.result c.if-not-visited.true)
+returns-then-not-visited c = let v = c.visited-visited in rw (← v.ensures, c.if-not-visited.true)
 
 -- the entry is visited
 there : (c : tie.Else-not-visited) → let A = c.args in visits A.present.now A.boxes.now A.mark.now A.rect A.k ≡ true
-there c = let v = c.visited-visited in sym v.ensures ∙ not-false v.result c.if-not-visited.false
+there c = let v = c.visited-visited in sym v.ensures ∙ c.if-not-visited.false
 
 -- so its node is in the tables
 low : (c : tie.Else-not-visited) → let A = c.args in carried_by A.payload.now A.k < 256

@@ -11,10 +11,10 @@ use Rattle.tree_remove.proofs.steps.remove_key.Tie as tie
 returns-then-not-committed : tie.Need-returns-then-not-committed
 returns-then-not-committed c =
     let A = c.args in
-    none_removed A.committed A.key.0 A.mark.now A.free.now A.dirty.now A.frees A.queued (not-true A.committed c.if-not-committed.true)
+    none_removed A.committed A.key.0 A.mark.now A.free.now A.dirty.now A.frees A.queued c.if-not-committed.true
 
 committed_is : (c : tie.Else-not-committed) → c.args.committed ≡ true
-committed_is c = not-false c.args.committed c.if-not-committed.false
+committed_is c = c.if-not-committed.false
 
 owned : (c : tie.Else-not-committed) → let A = c.args in Owned A.generation.now A.mark.now A.dirty.now A.queued A.key
 owned c = c.requires.2 (committed_is c)

@@ -28,10 +28,10 @@ keys_of c = lent.keys c.args.committed.now c.args.slot.now c.args.keys_generatio
 
 -- what the test tells
 is_new : (c : tie.Then-not-committed-x) → get_or c.args.committed.now c.args.x false ≡ false
-is_new c = not-true _ c.if-not-committed-x.true
+is_new c = c.if-not-committed-x.true
 
 is_old : (c : tie.Else-not-committed-x) → get_or c.args.committed.now c.args.x false ≡ true
-is_old c = not-false _ c.if-not-committed-x.false
+is_old c = c.if-not-committed-x.false
 
 bounds-committed-x : tie.Need-bounds-committed-x
 bounds-committed-x c = search rules

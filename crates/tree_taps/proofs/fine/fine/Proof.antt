@@ -7,11 +7,11 @@ use Rattle.tree_taps.proofs.fine.fine.Statement.{statement}
 use Rattle.tree_taps.proofs.fine.fine.Tie as tie
 
 returns-then-not-visited : tie.Need-returns-then-not-visited
-returns-then-not-visited c = rw (not-true c.args.visited c.if-not-visited.true)
+returns-then-not-visited c = rw c.if-not-visited.true
 
 -- the node is shown
 shown : (c : tie.Else-not-visited) → let A = c.args in Shown A.order.now A.count A.x
-shown c = c.requires.4 (not-false c.args.visited c.if-not-visited.false)
+shown c = c.requires.4 c.if-not-visited.false
 
 bounds-flags-x : tie.Need-bounds-flags-x
 bounds-flags-x c = (shown c).0
@@ -24,7 +24,7 @@ unfolding fine_at
 returns-then-not-contains c =
     let h = c.contains in
     let y = c.before.before.before in
-    rw (not-false y.args.visited y.if-not-visited.false, ← h.ensures, not-true h.result c.if-not-contains.true)
+    rw (y.if-not-visited.false, ← h.ensures, c.if-not-contains.true)
 
 reaches-requires : tie.Need-reaches-requires
 reaches-requires c κs = (shown c.before.before.before).0
@@ -35,7 +35,7 @@ returns-then-not-reaches c =
     let h = c.contains in
     let r = c.reaches in
     let y = c.before.before.before.before.before in
-    rw (not-false y.args.visited y.if-not-visited.false, ← h.ensures, not-false h.result c.if-not-contains.false, ← r.ensures, not-true r.result c.if-not-reaches.true)
+    rw (y.if-not-visited.false, ← h.ensures, c.if-not-contains.false, ← r.ensures, c.if-not-reaches.true)
 
 overflow_cast-x : tie.Need-overflow_cast-x
 overflow_cast-x c = omega (arith, (shown c.before.before.before.before.before).0)
@@ -57,7 +57,7 @@ returns c =
     let h = c.contains in
     let r = c.reaches in
     let y = c.before.before.before.before.before.before.before in
-    rw (not-false y.args.visited y.if-not-visited.false, ← h.ensures, not-false h.result c.if-not-contains.false, ← r.ensures, not-false r.result c.if-not-reaches.false, c.in_clips.ensures, c.position-at.ensures.1)
+    rw (y.if-not-visited.false, ← h.ensures, c.if-not-contains.false, ← r.ensures, c.if-not-reaches.false, c.in_clips.ensures, c.position-at.ensures.1)
 
 pub fine_spec : {M : Type 1} → statement M
 fine_spec =

@@ -59,7 +59,7 @@ returns-then-not-in_clip c =
     let lx : length A.order.now ≡ 256 = search rules in
     let ld : length A.depth.now ≡ 256 = search rules in
     let i = c.in_clip in
-    sym (L.invariant.2 ∙ every_stop L.d L.j A.order.now A.depth.now (omega arith) (omega arith) (omega arith) (clip_holds A.kind.now A.clip.now A.transform.now A.point) c.if-depth-j.true (sym i.ensures ∙ not-true i.result c.if-not-in_clip.true))
+    sym (L.invariant.2 ∙ every_stop L.d L.j A.order.now A.depth.now (omega arith) (omega arith) (omega arith) (clip_holds A.kind.now A.clip.now A.transform.now A.point) c.if-depth-j.true (sym i.ensures ∙ c.if-not-in_clip.true))
 
 loop-j-smaller-else-not-in_clip : tie.Need-loop-j-smaller-else-not-in_clip invariant-loop-j decreases-loop-j
 loop-j-smaller-else-not-in_clip c = search rules
@@ -71,7 +71,7 @@ loop-j-preserved-else-not-in_clip c =
     let lx : length A.order.now ≡ 256 = search rules in
     let ld : length A.depth.now ≡ 256 = search rules in
     let i = c.in_clip in
-    (omega arith, omega arith, L.invariant.2 ∙ every_on L.d L.j A.order.now A.depth.now (omega arith) (omega arith) (omega arith) (clip_holds A.kind.now A.clip.now A.transform.now A.point) c.if-depth-j.true (sym i.ensures ∙ not-false i.result c.if-not-in_clip.false))
+    (omega arith, omega arith, L.invariant.2 ∙ every_on L.d L.j A.order.now A.depth.now (omega arith) (omega arith) (omega arith) (clip_holds A.kind.now A.clip.now A.transform.now A.point) c.if-depth-j.true (sym i.ensures ∙ c.if-not-in_clip.false))
 
 loop-j-smaller : tie.Need-loop-j-smaller invariant-loop-j decreases-loop-j
 loop-j-smaller c = search rules

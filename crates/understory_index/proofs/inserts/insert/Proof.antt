@@ -23,7 +23,7 @@ count_here c =
     let S = c.before.before.before.before.before.before.before.before.before.before.before.before.before.before in
     let ix = S.args.ix in
     (count_tells ix.mark ix.free ix.frees ix.dirty ix.queued ix.used (lens S).0 (lens S).1 (lens S).2).0
-    (sym c.is_sound.ensures ∙ not-false c.is_sound.result c.if-not-is_sound.false)
+    (sym c.is_sound.ensures ∙ c.if-not-is_sound.false)
 
 is_sound-requires : tie.Need-is_sound-requires
 is_sound-requires c κs = search rules
