@@ -24,22 +24,22 @@ rises false b e = absurd (contra e refl)
 step : (m n : ℕ) (rest : Conditions) → ltb m n && rising_from n rest ≡ true → (m < n) × (rising_from n rest ≡ true)
 step m n rest r = let b = rises (ltb m n) (rising_from n rest) r in (ltb-true m n b.0, b.1)
 
-above : (m : ℕ) (cs : Conditions) → rising_from m cs ≡ true → (k : ℕ) → Applies k cs → m < k
+above : (k m : ℕ) (cs : Conditions) → rising_from m cs ≡ true → Applies k cs → m < k
 unfolding rising_from
-above m cs r k (here rest) = (step m k rest r).0
-above m cs r k (further holds n rest a) = let s = step m n rest r in omega (arith, s.0, above n rest s.1 k a)
+above k m cs r (here rest) = (step m k rest r).0
+above k m cs r (further holds n rest a) = let s = step m n rest r in omega (arith, s.0, above k n rest s.1 a)
 
-below : (m : ℕ) (cs : Conditions) → rising_from m cs ≡ true → (k : ℕ) → Applies k cs → lowest cs ≤ k
+below : (k m : ℕ) (cs : Conditions) → rising_from m cs ≡ true → Applies k cs → lowest cs ≤ k
 unfolding rising_from lowest
-below m cs r k (here rest) = omega arith
-below m cs r k (further true n rest a) = below n rest (step m n rest r).1 k a
-below m cs r k (further false n rest a) = omega (arith, above n rest (step m n rest r).1 k a)
+below k m cs r (here rest) = omega arith
+below k m cs r (further true n rest a) = below k n rest (step m n rest r).1 a
+below k m cs r (further false n rest a) = omega (arith, above k n rest (step m n rest r).1 a)
 
-no_other : (m : ℕ) (cs : Conditions) → rising_from m cs ≡ true → lowest cs ≡ 0 → (k : ℕ) → Applies k cs → ⊥
+no_other : (k m : ℕ) (cs : Conditions) → rising_from m cs ≡ true → lowest cs ≡ 0 → Applies k cs → ⊥
 unfolding rising_from lowest
-no_other m cs r e k (here rest) = omega (arith, (step m k rest r).0)
-no_other m cs r e k (further true n rest a) = no_other n rest (step m n rest r).1 e k a
-no_other m cs r e k (further false n rest a) = omega (arith, (step m n rest r).0)
+no_other k m cs r e (here rest) = omega (arith, (step m k rest r).0)
+no_other k m cs r e (further true n rest a) = no_other k n rest (step m n rest r).1 e a
+no_other k m cs r e (further false n rest a) = omega (arith, (step m n rest r).0)
 
 fails : (cs : Conditions) → (lowest cs ≡ 0 → ⊥) → Applies (lowest cs) cs
 unfolding lowest
@@ -48,7 +48,7 @@ fails (true else n then rest) d = further true n rest (fails rest d)
 fails (false else n then rest) d = here rest
 
 pub least : (cs : Conditions) → rising cs ≡ true → Least cs
-least cs r = record { none = no_other 0 cs r; applies = fails cs; least = below 0 cs r }
+least cs r = record { none = λ e k. no_other k 0 cs r e; applies = fails cs; least = λ k. below k 0 cs r }
 
 module _ {A : Type 0} where
   number_in : Told A → ℕ

@@ -3,19 +3,19 @@ use Rattle.index_commit.specs.Commit.{box_before}
 use Rattle.index_commit.proofs.box_before.Statement.{statement}
 use Rattle.index_commit.proofs.box_before.Tie as tie
 
-enum-known-p : tie.Need-enum-known-p
-enum-known-p c = search rules
+enum_known-p : tie.Need-enum_known-p
+enum_known-p c = search rules
 
-enum_told : tie.Need-enum-told
-enum_told c = search rules
+enum_told-1 : tie.Need-enum_told-1
+enum_told-1 c = search rules
 
-returns : tie.Need-returns
+returns-in-Some : tie.Need-returns-in-Some
 unfolding box_before
-returns c = rw c.before.p.given.1
+returns-in-Some c = rw c.in-Some.is
 
-returns-2 : tie.Need-returns-2
+returns-in-None : tie.Need-returns-in-None
 unfolding box_before
-returns-2 c = rw c.enum_told.given.1
+returns-in-None c = rw c.in-None.is
 
-pub box-before-spec : {M : Type 1} → statement M
-box-before-spec = tie.close (tie.spec enum-known-p enum_told returns returns-2)
+pub box_before_spec : {M : Type 1} → statement M
+box_before_spec = tie.close (tie.spec enum_known-p enum_told-1 returns-in-Some returns-in-None)

@@ -6,95 +6,95 @@ use Rattle.index_commit.proofs.Acts.{act_rests, act_adds, act_moves, act_drops}
 use Rattle.index_commit.proofs.commit_slot.Statement.{statement}
 use Rattle.index_commit.proofs.commit_slot.Tie as tie
 
-element-copy-out-m : tie.Need-element-copy-out-m
-element-copy-out-m c = search rules
+bounds-mark-at : tie.Need-bounds-mark-at
+bounds-mark-at c = search rules
+
+returns-then-m-lt2 : tie.Need-returns-then-m-lt2
+returns-then-m-lt2 c = let A = c.args in let m = get_or A.mark.now A.x 0 in rw (act_rests m c.if-m-lt2.true) (refl, (refl, (refl, (refl, (refl, refl)))))
+
+box_at-b-requires : tie.Need-box_at-b-requires
+box_at-b-requires c κs = search rules
+
+bounds-mark-at-then-m-eq2 : tie.Need-bounds-mark-at-then-m-eq2
+bounds-mark-at-then-m-eq2 c = search rules
+
+bounds-present-at : tie.Need-bounds-present-at
+bounds-present-at c = search rules
+
+put_box-requires : tie.Need-put_box-requires
+put_box-requires c κs = search rules
+
+returns-then-m-eq2 : tie.Need-returns-then-m-eq2
+returns-then-m-eq2 c = let A = c.args in let m = get_or A.mark.now A.x 0 in rw (act_adds m (omega arith) c.if-m-eq2.true, ← c.box_at-b.ensures) (refl, (refl, (refl, (refl, (c.put_box.ensures, refl)))))
+
+previous_at-p-requires : tie.Need-previous_at-p-requires
+previous_at-p-requires c κs = search rules
+
+bounds-mark-at-then-m-eq3 : tie.Need-bounds-mark-at-then-m-eq3
+bounds-mark-at-then-m-eq3 c = search rules
+
+bounds-kept-at : tie.Need-bounds-kept-at
+bounds-kept-at c = search rules
+
+bounds-present-at-then-m-eq3 : tie.Need-bounds-present-at-then-m-eq3
+bounds-present-at-then-m-eq3 c = search rules
+
+put_box-requires-then-m-eq3 : tie.Need-put_box-requires-then-m-eq3
+put_box-requires-then-m-eq3 c κs = search rules
+
+moved_from-from-requires : tie.Need-moved_from-from-requires
+moved_from-from-requires c κs = search rules
+
+moved_to-requires : tie.Need-moved_to-requires
+moved_to-requires c κs = search rules
+
+returns-then-m-eq3 : tie.Need-returns-then-m-eq3
+returns-then-m-eq3 c = let A = c.args in let m = get_or A.mark.now A.x 0 in rw (act_moves m (omega arith) c.if-m-eq2.false c.if-m-eq3.true, ← c.box_at-b.ensures, ← c.previous_at-p.ensures) (refl, (refl, (refl, (refl, (c.put_box-then-m-eq3.ensures, rw (c.moved_to.ensures, c.moved_from-from.ensures))))))
+
+bounds-mark-at-2 : tie.Need-bounds-mark-at-2
+bounds-mark-at-2 c = search rules
+
+bounds-present-at-2 : tie.Need-bounds-present-at-2
+bounds-present-at-2 c = search rules
+
+offset_bounds-free-frees : tie.Need-offset_bounds-free-frees
+offset_bounds-free-frees c = let A = c.args in let m = get_or A.mark.now A.x 0 in omega (arith, c.requires.1 (act_drops m (omega arith) c.if-m-eq2.false c.if-m-eq3.false))
+
+bounds-free-frees : tie.Need-bounds-free-frees
+bounds-free-frees c = let A = c.args in let m = get_or A.mark.now A.x 0 in omega (arith, c.requires.1 (act_drops m (omega arith) c.if-m-eq2.false c.if-m-eq3.false))
+
+overflow_add-result : tie.Need-overflow_add-result
+overflow_add-result c = let A = c.args in let m = get_or A.mark.now A.x 0 in omega (arith, c.requires.1 (act_drops m (omega arith) c.if-m-eq2.false c.if-m-eq3.false))
+
+box_before-requires : tie.Need-box_before-requires
+box_before-requires c κs = search rules
 
 returns : tie.Need-returns
-returns c = let A = c.before.before.args in let m = get_or A.mark.now A.x 0 in rw (act_rests m c.if1.true) (refl, (refl, (refl, (refl, (refl, refl)))))
+returns c = let A = c.args in let m = get_or A.mark.now A.x 0 in rw (act_drops m (omega arith) c.if-m-eq2.false c.if-m-eq3.false, ← c.box_at-b.ensures, ← c.previous_at-p.ensures) (refl, (refl, (refl, (refl, (refl, rw c.box_before.ensures)))))
 
-box-at-requires : tie.Need-box-at-requires
-box-at-requires c κs = search rules
-
-element-write-mark : tie.Need-element-write-mark
-element-write-mark c = search rules
-
-element-write-present : tie.Need-element-write-present
-element-write-present c = search rules
-
-put-box-requires : tie.Need-put-box-requires
-put-box-requires c κs = search rules
-
-returns-2 : tie.Need-returns-2
-returns-2 c = let A = c.before.before.before.before.before.before.args in let m = get_or A.mark.now A.x 0 in rw (act_adds m (omega arith) c.before.before.if2.true, ← c.before.before.before.box-at.ensures) (refl, (refl, (refl, (refl, (c.put-box.ensures, refl)))))
-
-previous-at-requires : tie.Need-previous-at-requires
-previous-at-requires c κs = search rules
-
-element-write-mark-2 : tie.Need-element-write-mark-2
-element-write-mark-2 c = search rules
-
-element-write-kept : tie.Need-element-write-kept
-element-write-kept c = search rules
-
-element-write-present-2 : tie.Need-element-write-present-2
-element-write-present-2 c = search rules
-
-put-box-requires-2 : tie.Need-put-box-requires-2
-put-box-requires-2 c κs = search rules
-
-moved-from-requires : tie.Need-moved-from-requires
-moved-from-requires c κs = search rules
-
-moved-to-requires : tie.Need-moved-to-requires
-moved-to-requires c κs = search rules
-
-returns-3 : tie.Need-returns-3
-returns-3 c = let A = c.before.before.before.before.before.before.before.before.before.before.before.args in let m = get_or A.mark.now A.x 0 in rw (act_moves m (omega arith) c.before.before.before.before.before.before.before.if2.false c.before.before.before.before.if3.true, ← c.before.before.before.before.before.before.before.before.box-at.ensures, ← c.before.before.before.before.before.previous-at.ensures) (refl, (refl, (refl, (refl, (c.before.before.put-box2.ensures, rw (c.moved_to.ensures, c.before.moved-from.ensures))))))
-
-element-write-mark-3 : tie.Need-element-write-mark-3
-element-write-mark-3 c = search rules
-
-element-write-present-3 : tie.Need-element-write-present-3
-element-write-present-3 c = search rules
-
-mul-free : tie.Need-overflow-mul-free
-mul-free c = let A = c.before.before.before.before.before.before.before.args in let m = get_or A.mark.now A.x 0 in omega (arith, c.before.before.before.before.before.before.before.requires.1 (act_drops m (omega arith) c.before.before.before.if2.false c.if3.false))
-
-element-write-free : tie.Need-element-write-free
-element-write-free c = let A = c.before.before.before.before.before.before.before.args in let m = get_or A.mark.now A.x 0 in omega (arith, c.before.before.before.before.before.before.before.requires.1 (act_drops m (omega arith) c.before.before.before.if2.false c.if3.false))
-
-add-t49 : tie.Need-overflow-add-t49
-add-t49 c = let A = c.before.before.before.before.before.before.before.args in let m = get_or A.mark.now A.x 0 in omega (arith, c.before.before.before.before.before.before.before.requires.1 (act_drops m (omega arith) c.before.before.before.if2.false c.if3.false))
-
-box-before-requires : tie.Need-box-before-requires
-box-before-requires c κs = search rules
-
-returns-4 : tie.Need-returns-4
-returns-4 c = let A = c.before.before.before.before.before.before.before.before.args in let m = get_or A.mark.now A.x 0 in rw (act_drops m (omega arith) c.before.before.before.before.if2.false c.before.if3.false, ← c.before.before.before.before.before.box-at.ensures, ← c.before.before.previous-at.ensures) (refl, (refl, (refl, (refl, (refl, rw c.box-before.ensures)))))
-
-pub commit-slot-spec : {M : Type 1} → statement M
-commit-slot-spec =
+pub commit_slot_spec : {M : Type 1} → statement M
+commit_slot_spec =
     tie.close
     (tie.spec
-    element-copy-out-m
-    returns
-    box-at-requires
-    element-write-mark
-    element-write-present
-    put-box-requires
-    returns-2
-    previous-at-requires
-    element-write-mark-2
-    element-write-kept
-    element-write-present-2
-    put-box-requires-2
-    moved-from-requires
-    moved-to-requires
-    returns-3
-    element-write-mark-3
-    element-write-present-3
-    mul-free
-    element-write-free
-    add-t49
-    box-before-requires
-    returns-4)
+    bounds-mark-at
+    returns-then-m-lt2
+    box_at-b-requires
+    bounds-mark-at-then-m-eq2
+    bounds-present-at
+    put_box-requires
+    returns-then-m-eq2
+    previous_at-p-requires
+    bounds-mark-at-then-m-eq3
+    bounds-kept-at
+    bounds-present-at-then-m-eq3
+    put_box-requires-then-m-eq3
+    moved_from-from-requires
+    moved_to-requires
+    returns-then-m-eq3
+    bounds-mark-at-2
+    bounds-present-at-2
+    offset_bounds-free-frees
+    bounds-free-frees
+    overflow_add-result
+    box_before-requires
+    returns)

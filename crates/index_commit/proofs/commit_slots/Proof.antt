@@ -8,16 +8,16 @@ use Rattle.index_commit.specs.Commit.{start, work}
 use Rattle.index_commit.proofs.commit_slots.Statement.{statement}
 use Rattle.index_commit.proofs.commit_slots.Tie as tie
 
-abbrev invariant-loop : tie.invariant-loop
-invariant-loop mark₀ kept₀ free₀ present₀ boxes₀ aabb prev dirty queued frees added₀ removed₀ old₀ new₀ f₀ a₀ r₀ m₀ i₀ mark kept free present boxes added removed old new f a r m i = Inv aabb prev dirty queued (start mark₀ kept₀ free₀ frees present₀ boxes₀) added₀ removed₀ old₀ new₀ mark kept free present boxes added removed old new f a r m i
+abbrev invariant-loop-i : tie.invariant-loop-i
+invariant-loop-i mark₀ kept₀ free₀ present₀ boxes₀ aabb prev dirty queued frees added₀ removed₀ old₀ new₀ f₀ a₀ r₀ m₀ i₀ mark kept free present boxes added removed old new f a r m i = Inv aabb prev dirty queued (start mark₀ kept₀ free₀ frees present₀ boxes₀) added₀ removed₀ old₀ new₀ mark kept free present boxes added removed old new f a r m i
 
-abbrev decreases-loop : tie.decreases-loop
-decreases-loop mark₀ kept₀ free₀ present₀ boxes₀ aabb prev dirty queued frees added₀ removed₀ old₀ new₀ f₀ a₀ r₀ m₀ i₀ mark kept free present boxes added removed old new f a r m i = queued - i
+abbrev decreases-loop-i : tie.decreases-loop-i
+decreases-loop-i mark₀ kept₀ free₀ present₀ boxes₀ aabb prev dirty queued frees added₀ removed₀ old₀ new₀ f₀ a₀ r₀ m₀ i₀ mark kept free present boxes added removed old new f a r m i = queued - i
 
-loop-holds : tie.Need-loop-init invariant-loop decreases-loop
+loop-i-init : tie.Need-loop-i-init invariant-loop-i decreases-loop-i
 unfolding work
-loop-holds c = let A = c.before.before.before.before.args in
-    let P = c.before.before.before.before.requires in
+loop-i-init c = let A = c.args in
+    let P = c.requires in
     let C = counted A.mark.now A.free.now A.frees A.dirty.now A.queued P.7.0 P.0 P.1 P.2 P.7.1 in
     record {
       i_fits = omega arith;
@@ -37,77 +37,77 @@ loop-holds c = let A = c.before.before.before.before.args in
       new_long = record { same = refl; enough = P.6 };
     }
 
-mul-commit-slot : tie.Need-overflow-mul-commit-slot invariant-loop decreases-loop
-mul-commit-slot c = omega (arith, c.before.before.before.before.before.before.loop.invariant.q_fits, c.before.before.before.before.before.loop-test.true)
+offset_bounds-dirty-i : tie.Need-offset_bounds-dirty-i invariant-loop-i decreases-loop-i
+offset_bounds-dirty-i c = omega (arith, c.loop-i.invariant.q_fits, c.loop-i-test.true)
 
-element-copy-out-commit-slot : tie.Need-element-copy-out-commit-slot invariant-loop decreases-loop
-element-copy-out-commit-slot c = omega (arith, c.before.before.before.before.before.before.loop.invariant.q_fits, c.before.before.before.before.before.loop-test.true)
+bounds-dirty-i : tie.Need-bounds-dirty-i invariant-loop-i decreases-loop-i
+bounds-dirty-i c = omega (arith, c.loop-i.invariant.q_fits, c.loop-i-test.true)
 
-commit-slot-requires : tie.Need-commit-slot-requires invariant-loop decreases-loop
-commit-slot-requires c κs = let L = c.before.before.before.before.before.before.before.loop in let A = c.before.before.before.before.before.before.before.before.before.before.before.before.args in let h = c.before.before.before.before.before.before.loop-test.true in (x_low A.aabb.now A.prev.now A.dirty.now A.queued (start A.mark.now A.kept.now A.free.now A.frees A.present.now A.boxes.now) A.added.now A.removed.now A.old.now A.new.now L.mark L.auto L.free L.present L.boxes L.added L.removed L.old L.new L.f L.a L.r L.m L.i L.invariant h, x_room A.aabb.now A.prev.now A.dirty.now A.queued (start A.mark.now A.kept.now A.free.now A.frees A.present.now A.boxes.now) A.added.now A.removed.now A.old.now A.new.now L.mark L.auto L.free L.present L.boxes L.added L.removed L.old L.new L.f L.a L.r L.m L.i L.invariant h)
+commit_slot-c-requires : tie.Need-commit_slot-c-requires invariant-loop-i decreases-loop-i
+commit_slot-c-requires c κs = let L = c.loop-i in let A = c.args in let h = c.loop-i-test.true in (x_low A.aabb.now A.prev.now A.dirty.now A.queued (start A.mark.now A.kept.now A.free.now A.frees A.present.now A.boxes.now) A.added.now A.removed.now A.old.now A.new.now L.mark L.auto L.free L.present L.boxes L.added L.removed L.old L.new L.f L.a L.r L.m L.i L.invariant h, x_room A.aabb.now A.prev.now A.dirty.now A.queued (start A.mark.now A.kept.now A.free.now A.frees A.present.now A.boxes.now) A.added.now A.removed.now A.old.now A.new.now L.mark L.auto L.free L.present L.boxes L.added L.removed L.old L.new L.f L.a L.r L.m L.i L.invariant h)
 
-push-requires : tie.Need-push-requires invariant-loop decreases-loop
-push-requires c κs = let L = c.before.before.before.before.before.before.before.before.before.loop in push_fits L.invariant.added_long L.invariant.a_few c.before.before.before.before.before.before.before.before.loop-test.true L.invariant.q_fits
+push-a-requires : tie.Need-push-a-requires invariant-loop-i decreases-loop-i
+push-a-requires c κs = let L = c.loop-i in push_fits L.invariant.added_long L.invariant.a_few c.loop-i-test.true L.invariant.q_fits
 
-push-requires-2 : tie.Need-push-requires-2 invariant-loop decreases-loop
-push-requires-2 c κs = let L = c.before.before.before.before.before.before.before.before.before.before.before.before.before.loop in push_fits L.invariant.removed_long L.invariant.r_few c.before.before.before.before.before.before.before.before.before.before.before.before.loop-test.true L.invariant.q_fits
+push-r-requires : tie.Need-push-r-requires invariant-loop-i decreases-loop-i
+push-r-requires c κs = let L = c.loop-i in push_fits L.invariant.removed_long L.invariant.r_few c.loop-i-test.true L.invariant.q_fits
 
-push-requires-3 : tie.Need-push-requires-3 invariant-loop decreases-loop
-push-requires-3 c κs = let L = c.before.before.before.before.before.before.before.before.before.before.before.before.before.before.before.before.before.loop in push_fits L.invariant.old_long L.invariant.m_few c.before.before.before.before.before.before.before.before.before.before.before.before.before.before.before.before.loop-test.true L.invariant.q_fits
+push-requires : tie.Need-push-requires invariant-loop-i decreases-loop-i
+push-requires c κs = let L = c.loop-i in push_fits L.invariant.old_long L.invariant.m_few c.loop-i-test.true L.invariant.q_fits
 
-push-requires-4 : tie.Need-push-requires-4 invariant-loop decreases-loop
-push-requires-4 c κs = let L = c.before.before.before.before.before.before.before.before.before.before.before.before.before.before.before.before.before.before.before.before.before.loop in push_fits L.invariant.new_long L.invariant.m_few c.before.before.before.before.before.before.before.before.before.before.before.before.before.before.before.before.before.before.before.before.loop-test.true L.invariant.q_fits
+push-m-requires : tie.Need-push-m-requires invariant-loop-i decreases-loop-i
+push-m-requires c κs = let L = c.loop-i in push_fits L.invariant.new_long L.invariant.m_few c.loop-i-test.true L.invariant.q_fits
 
-add-i : tie.Need-overflow-add-i invariant-loop decreases-loop
-add-i c = omega (arith, c.before.before.before.before.before.before.before.before.before.before.before.before.before.before.before.before.before.before.before.before.before.before.before.before.loop.invariant.q_fits, c.before.before.before.before.before.before.before.before.before.before.before.before.before.before.before.before.before.before.before.before.before.before.before.loop-test.true)
+overflow_add-i : tie.Need-overflow_add-i invariant-loop-i decreases-loop-i
+overflow_add-i c = omega (arith, c.loop-i.invariant.q_fits, c.loop-i-test.true)
 
-loop-less : tie.Need-loop-smaller invariant-loop decreases-loop
-loop-less c = omega (arith, c.before.before.before.before.before.before.before.before.before.before.before.before.before.before.before.before.before.before.before.before.before.before.before.loop-test.true)
+loop-i-smaller : tie.Need-loop-i-smaller invariant-loop-i decreases-loop-i
+loop-i-smaller c = omega (arith, c.loop-i-test.true)
 
-loop-again : tie.Need-loop-preserved invariant-loop decreases-loop
-loop-again c = let L = c.before.before.before.before.before.before.before.before.before.before.before.before.before.before.before.before.before.before.before.before.before.before.before.before.loop in
-    let A = c.before.before.before.before.before.before.before.before.before.before.before.before.before.before.before.before.before.before.before.before.before.before.before.before.before.before.before.before.before.args in
-    let S = c.before.before.before.before.before.before.before.before.before.before.before.before.before.before.before.before.commit-slot.ensures in
-    let P = c.before.before.before.before.before.before.before.before.before.before.before.before.before.before.push.ensures in
-    let R = c.before.before.before.before.before.before.before.before.before.before.push2.ensures in
-    let O = c.before.before.before.before.before.before.push3.ensures in
-    let N = c.before.before.push4.ensures in
-    next A.aabb.now A.prev.now A.dirty.now A.queued (start A.mark.now A.kept.now A.free.now A.frees A.present.now A.boxes.now) A.added.now A.removed.now A.old.now A.new.now L.mark L.auto L.free L.present L.boxes L.added L.removed L.old L.new L.f L.a L.r L.m L.i L.invariant c.before.before.before.before.before.before.before.before.before.before.before.before.before.before.before.before.before.before.before.before.before.before.before.loop-test.true c.before.before.before.before.before.before.before.before.before.before.before.before.before.before.before.before.commit-slot.result _ _ _ _ _ _ _ _ _ _ _ _ S.1.1.1.1.1 S.0 S.1.0 S.1.1.0 S.1.1.1.0 S.1.1.1.1.0 P.0 P.1 R.0 R.1 O.0 N.0 N.1
+loop-i-preserved : tie.Need-loop-i-preserved invariant-loop-i decreases-loop-i
+loop-i-preserved c = let L = c.loop-i in
+    let A = c.args in
+    let S = c.commit_slot-c.ensures in
+    let P = c.push-a.ensures in
+    let R = c.push-r.ensures in
+    let O = c.push.ensures in
+    let N = c.push-m.ensures in
+    next A.aabb.now A.prev.now A.dirty.now A.queued (start A.mark.now A.kept.now A.free.now A.frees A.present.now A.boxes.now) A.added.now A.removed.now A.old.now A.new.now L.mark L.auto L.free L.present L.boxes L.added L.removed L.old L.new L.f L.a L.r L.m L.i L.invariant c.loop-i-test.true c.commit_slot-c.result _ _ _ _ _ _ _ _ _ _ _ _ S.1.1.1.1.1 S.0 S.1.0 S.1.1.0 S.1.1.1.0 S.1.1.1.1.0 P.0 P.1 R.0 R.1 O.0 N.0 N.1
 
-same_length : tie.Need-same-length invariant-loop decreases-loop
-same_length c = c.before.loop.invariant.added_long.same
+shape_of-added : tie.Need-shape_of-added invariant-loop-i decreases-loop-i
+shape_of-added c = c.loop-i.invariant.added_long.same
 
-same-length-2 : tie.Need-same-length-2 invariant-loop decreases-loop
-same-length-2 c = c.before.loop.invariant.removed_long.same
+shape_of-removed : tie.Need-shape_of-removed invariant-loop-i decreases-loop-i
+shape_of-removed c = c.loop-i.invariant.removed_long.same
 
-same-length-3 : tie.Need-same-length-3 invariant-loop decreases-loop
-same-length-3 c = c.before.loop.invariant.old_long.same
+shape_of-old : tie.Need-shape_of-old invariant-loop-i decreases-loop-i
+shape_of-old c = c.loop-i.invariant.old_long.same
 
-same-length-4 : tie.Need-same-length-4 invariant-loop decreases-loop
-same-length-4 c = c.before.loop.invariant.new_long.same
+shape_of-new : tie.Need-shape_of-new invariant-loop-i decreases-loop-i
+shape_of-new c = c.loop-i.invariant.new_long.same
 
-returns : tie.Need-returns invariant-loop decreases-loop
-returns c = let L = c.before.loop in let A = c.before.before.before.before.before.before.args in let e : L.i ≡ A.queued = omega (arith, L.invariant.i_fits) in rw (← e) (L.invariant.state, L.invariant.rooms)
+returns : tie.Need-returns invariant-loop-i decreases-loop-i
+returns c = let L = c.loop-i in let A = c.args in let e : L.i ≡ A.queued = omega (arith, L.invariant.i_fits) in rw (← e) (L.invariant.state, L.invariant.rooms)
 
-pub commit-slots-spec : {M : Type 1} → statement M
-commit-slots-spec =
+pub commit_slots_spec : {M : Type 1} → statement M
+commit_slots_spec =
     tie.close
     (tie.spec
-    invariant-loop
-    decreases-loop
-    loop-holds
-    mul-commit-slot
-    element-copy-out-commit-slot
-    commit-slot-requires
+    invariant-loop-i
+    decreases-loop-i
+    loop-i-init
+    offset_bounds-dirty-i
+    bounds-dirty-i
+    commit_slot-c-requires
+    push-a-requires
+    push-r-requires
     push-requires
-    push-requires-2
-    push-requires-3
-    push-requires-4
-    add-i
-    loop-less
-    loop-again
-    same_length
-    same-length-2
-    same-length-3
-    same-length-4
+    push-m-requires
+    overflow_add-i
+    loop-i-smaller
+    loop-i-preserved
+    shape_of-added
+    shape_of-removed
+    shape_of-old
+    shape_of-new
     returns)

@@ -3,27 +3,27 @@ use Rattle.index_commit.specs.Commit.{moved_from}
 use Rattle.index_commit.proofs.moved_from.Statement.{statement}
 use Rattle.index_commit.proofs.moved_from.Tie as tie
 
-enum-known-p : tie.Need-enum-known-p
-enum-known-p c = search rules
+enum_known-p : tie.Need-enum_known-p
+enum_known-p c = search rules
 
 eq-requires : tie.Need-eq-requires
 eq-requires c κs = search rules
 
-returns : tie.Need-returns
+returns-then-eq : tie.Need-returns-then-eq
 unfolding moved_from
-returns c = rw (c.before.before.before.p.given.1, ← c.before.eq.ensures, c.if1.true)
+returns-then-eq c = rw (c.in-Some.is, ← c.eq.ensures, c.if-eq.true)
 
-enum_told : tie.Need-enum-told
-enum_told c = search rules
+enum_told-1 : tie.Need-enum_told-1
+enum_told-1 c = search rules
 
-returns-2 : tie.Need-returns-2
+returns-else-eq : tie.Need-returns-else-eq
 unfolding moved_from
-returns-2 c = rw (c.before.before.before.p.given.1, ← c.before.eq.ensures, c.if1.false)
+returns-else-eq c = rw (c.in-Some.is, ← c.eq.ensures, c.if-eq.false)
 
-returns-3 : tie.Need-returns-3
+returns-in-None : tie.Need-returns-in-None
 unfolding moved_from
-returns-3 c = rw c.enum_told.given.1
+returns-in-None c = rw c.in-None.is
 
-pub moved-from-spec : {M : Type 1} → statement M
-moved-from-spec =
-    tie.close (tie.spec enum-known-p eq-requires returns enum_told returns-2 returns-3)
+pub moved_from_spec : {M : Type 1} → statement M
+moved_from_spec =
+    tie.close (tie.spec enum_known-p eq-requires returns-then-eq enum_told-1 returns-else-eq returns-in-None)

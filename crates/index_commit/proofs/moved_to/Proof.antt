@@ -3,19 +3,19 @@ use Rattle.index_commit.specs.Commit.{moved_to}
 use Rattle.index_commit.proofs.moved_to.Statement.{statement}
 use Rattle.index_commit.proofs.moved_to.Tie as tie
 
-enum_told : tie.Need-enum-told
-enum_told c = search rules
+enum_told-1 : tie.Need-enum_told-1
+enum_told-1 c = search rules
 
-enum-told-2 : tie.Need-enum-told-2
-enum-told-2 c = search rules
+enum_told-in-None : tie.Need-enum_told-in-None
+enum_told-in-None c = search rules
 
-returns : tie.Need-returns
+returns-in-Some : tie.Need-returns-in-Some
 unfolding moved_to
-returns c = rw c.enum_told.given.1
+returns-in-Some c = rw c.in-Some.is
 
-returns-2 : tie.Need-returns-2
+returns-in-None : tie.Need-returns-in-None
 unfolding moved_to
-returns-2 c = rw c.enum-told2.given.1
+returns-in-None c = rw c.in-None.is
 
-pub moved-to-spec : {M : Type 1} → statement M
-moved-to-spec = tie.close (tie.spec enum_told enum-told-2 returns returns-2)
+pub moved_to_spec : {M : Type 1} → statement M
+moved_to_spec = tie.close (tie.spec enum_told-1 enum_told-in-None returns-in-Some returns-in-None)

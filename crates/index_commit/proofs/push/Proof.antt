@@ -3,28 +3,28 @@ use borrow.Author.Rules.{rules}
 use Rattle.index_commit.proofs.push.Statement.{statement}
 use Rattle.index_commit.proofs.push.Tie as tie
 
-enum-known-p : tie.Need-enum-known-p
-enum-known-p c = search rules
+enum_known-p : tie.Need-enum_known-p
+enum_known-p c = search rules
 
-put-box-in-requires : tie.Need-put-box-in-requires
-put-box-in-requires c κs = search rules
+put_box_in-requires : tie.Need-put_box_in-requires
+put_box_in-requires c κs = search rules
 
-add-result : tie.Need-overflow-add-result
-add-result c = search rules
+overflow_add-result : tie.Need-overflow_add-result
+overflow_add-result c = search rules
 
-enum_told : tie.Need-enum-told
-enum_told c = search rules
+enum_told-1 : tie.Need-enum_told-1
+enum_told-1 c = search rules
 
-same_length : tie.Need-same-length
-same_length c = search rules
+shape_of-room : tie.Need-shape_of-room
+shape_of-room c = search rules
 
-returns : tie.Need-returns
-returns c = rw c.before.before.before.before.before.p.given.1 (c.before.before.put-box-in.ensures, refl)
+returns-in-Some : tie.Need-returns-in-Some
+returns-in-Some c = rw c.in-Some.is (c.put_box_in.ensures, refl)
 
-returns-2 : tie.Need-returns-2
-returns-2 c = rw c.enum_told.given.1 (refl, refl)
+returns-in-None : tie.Need-returns-in-None
+returns-in-None c = rw c.in-None.is (refl, refl)
 
 pub push_spec : {M : Type 1} → statement M
 push_spec =
     tie.close
-    (tie.spec enum-known-p put-box-in-requires add-result enum_told same_length returns returns-2)
+    (tie.spec enum_known-p put_box_in-requires overflow_add-result enum_told-1 shape_of-room returns-in-Some returns-in-None)

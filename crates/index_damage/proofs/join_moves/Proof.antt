@@ -9,52 +9,52 @@ use Rattle.index_damage.specs.Damage.{join_all, moves_in}
 use Rattle.index_damage.proofs.join_moves.Statement.{statement}
 use Rattle.index_damage.proofs.join_moves.Tie as tie
 
-abbrev invariant-loop : tie.invariant-loop
-invariant-loop old new n u₀ i₀ u i = (i ≤ n) × (4 * n ≤ length old) × (4 * n ≤ length new) × (u ≡ join_all u₀ (moves_in old new i))
+abbrev invariant-loop-i : tie.invariant-loop-i
+invariant-loop-i old new n u₀ i₀ u i = (i ≤ n) × (4 * n ≤ length old) × (4 * n ≤ length new) × (u ≡ join_all u₀ (moves_in old new i))
 
-abbrev decreases-loop : tie.decreases-loop
-decreases-loop old new n u₀ i₀ u i = n - i
+abbrev decreases-loop-i : tie.decreases-loop-i
+decreases-loop-i old new n u₀ i₀ u i = n - i
 
-loop-holds : tie.Need-loop-init invariant-loop decreases-loop
+loop-i-init : tie.Need-loop-i-init invariant-loop-i decreases-loop-i
 unfolding join_all moves_in
-loop-holds c = (omega arith, c.before.before.requires.0, c.before.before.requires.1, refl)
+loop-i-init c = (omega arith, c.requires.0, c.requires.1, refl)
 
-box-in-requires : tie.Need-box-in-requires invariant-loop decreases-loop
-box-in-requires c κs = search rules
+box_in-requires : tie.Need-box_in-requires invariant-loop-i decreases-loop-i
+box_in-requires c κs = search rules
 
-with-box-requires : tie.Need-with-box-requires invariant-loop decreases-loop
-with-box-requires c κs = search rules
+with_box-requires : tie.Need-with_box-requires invariant-loop-i decreases-loop-i
+with_box-requires c κs = search rules
 
-box-in-requires-2 : tie.Need-box-in-requires-2 invariant-loop decreases-loop
-box-in-requires-2 c κs = search rules
+box_in-requires-in-loop-i : tie.Need-box_in-requires-in-loop-i invariant-loop-i decreases-loop-i
+box_in-requires-in-loop-i c κs = search rules
 
-with-box-requires-2 : tie.Need-with-box-requires-2 invariant-loop decreases-loop
-with-box-requires-2 c κs = search rules
+with_box-u-requires : tie.Need-with_box-u-requires invariant-loop-i decreases-loop-i
+with_box-u-requires c κs = search rules
 
-add-i : tie.Need-overflow-add-i invariant-loop decreases-loop
-add-i c = search rules
+overflow_add-i : tie.Need-overflow_add-i invariant-loop-i decreases-loop-i
+overflow_add-i c = search rules
 
-loop-less : tie.Need-loop-smaller invariant-loop decreases-loop
-loop-less c = search rules
+loop-i-smaller : tie.Need-loop-i-smaller invariant-loop-i decreases-loop-i
+loop-i-smaller c = search rules
 
-loop-again : tie.Need-loop-preserved invariant-loop decreases-loop
-loop-again c = let L = c.before.before.before.before.before.loop in let A = c.before.before.before.before.before.before.before.before.args in (omega arith, L.invariant.1, L.invariant.2, rw (c.with-box2.ensures, c.before.box-in2.ensures, c.before.before.with-box.ensures, c.before.before.before.box_in.ensures, L.invariant.3) (sym (moves_next A.start A.old.now A.new.now L.i)))
+loop-i-preserved : tie.Need-loop-i-preserved invariant-loop-i decreases-loop-i
+loop-i-preserved c = let L = c.loop-i in let A = c.args in (omega arith, L.invariant.1, L.invariant.2, rw (c.with_box-u.ensures, c.box_in-in-loop-i.ensures, c.with_box.ensures, c.box_in.ensures, L.invariant.3) (sym (moves_next A.start A.old.now A.new.now L.i)))
 
-returns : tie.Need-returns invariant-loop decreases-loop
-returns c = let L = c.before.loop in let e : L.i ≡ c.before.before.before.before.args.n = omega arith in rw (← e) L.invariant.3
+returns : tie.Need-returns invariant-loop-i decreases-loop-i
+returns c = let L = c.loop-i in let e : L.i ≡ c.args.n = omega arith in rw (← e) L.invariant.3
 
-pub join-moves-spec : {M : Type 1} → statement M
-join-moves-spec =
+pub join_moves_spec : {M : Type 1} → statement M
+join_moves_spec =
     tie.close
     (tie.spec
-    invariant-loop
-    decreases-loop
-    loop-holds
-    box-in-requires
-    with-box-requires
-    box-in-requires-2
-    with-box-requires-2
-    add-i
-    loop-less
-    loop-again
+    invariant-loop-i
+    decreases-loop-i
+    loop-i-init
+    box_in-requires
+    with_box-requires
+    box_in-requires-in-loop-i
+    with_box-u-requires
+    overflow_add-i
+    loop-i-smaller
+    loop-i-preserved
     returns)

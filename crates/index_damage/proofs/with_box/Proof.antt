@@ -3,17 +3,17 @@ use Rattle.index_damage.specs.Damage.{with_box}
 use Rattle.index_damage.proofs.with_box.Statement.{statement}
 use Rattle.index_damage.proofs.with_box.Tie as tie
 
-returns : tie.Need-returns
+returns-in-None : tie.Need-returns-in-None
 unfolding with_box
-returns c = rw c.enum_told.given.1
+returns-in-None c = rw c.in-None.is
 
-returns-2 : tie.Need-returns-2
+returns-in-Some : tie.Need-returns-in-Some
 unfolding with_box
-returns-2 c = rw (c.before.before.u.given.1, c.union.ensures)
+returns-in-Some c = rw (c.in-Some.is, c.union.ensures)
 
-returns-3 : tie.Need-returns-3
+returns-in-ShortRoom : tie.Need-returns-in-ShortRoom
 unfolding with_box
-returns-3 c = rw c.enum-told2.given.1
+returns-in-ShortRoom c = rw c.in-ShortRoom.is
 
-pub with-box-spec : {M : Type 1} → statement M
-with-box-spec = tie.close (tie.spec (λ c. search rules) (λ c. search rules) (λ c κs. search rules) (λ c. search rules) returns returns-2 returns-3)
+pub with_box_spec : {M : Type 1} → statement M
+with_box_spec = tie.close (tie.spec (λ c. search rules) (λ c. search rules) (λ c κs. search rules) (λ c. search rules) returns-in-None returns-in-Some returns-in-ShortRoom)

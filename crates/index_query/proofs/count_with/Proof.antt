@@ -3,14 +3,14 @@ use borrow.Author.Rules.{rules}
 use Rattle.index_query.proofs.count_with.Statement.{statement}
 use Rattle.index_query.proofs.count_with.Tie as tie
 
-add-result : tie.Need-overflow-add-result
-add-result c = search rules
+overflow_add-result : tie.Need-overflow_add-result
+overflow_add-result c = search rules
 
-returns : tie.Need-returns
-returns c = rw c.if1.true refl
+returns-then-take : tie.Need-returns-then-take
+returns-then-take c = rw c.if-take.true refl
 
-returns-2 : tie.Need-returns-2
-returns-2 c = rw c.if1.false refl
+returns-else-take : tie.Need-returns-else-take
+returns-else-take c = rw c.if-take.false refl
 
-pub count-with-spec : {M : Type 1} → statement M
-count-with-spec = tie.close (tie.spec add-result returns returns-2)
+pub count_with_spec : {M : Type 1} → statement M
+count_with_spec = tie.close (tie.spec overflow_add-result returns-then-take returns-else-take)

@@ -8,16 +8,16 @@ use Rattle.index_types.proofs.flat_tables.Segments.{plus_2, plus_3}
 use Rattle.index_query.proofs.push_entry.Statement.{statement}
 use Rattle.index_query.proofs.push_entry.Tie as tie
 
+returns-then-not-take : tie.Need-returns-then-not-take
+returns-then-not-take c = rw c.if-not-take.true refl
+
 returns : tie.Need-returns
-returns c = rw (not-true c.before.args.take c.if1.true) refl
+returns c = rw c.if-not-take.false (simp (add-one, plus_2, plus_3))
 
-returns-2 : tie.Need-returns-2
-returns-2 c = rw (not-false c.before.args.take c.if1.false) (simp (add-one, plus_2, plus_3))
-
-pub push-entry-spec : {M : Type 1} → statement M
-push-entry-spec =
+pub push_entry_spec : {M : Type 1} → statement M
+push_entry_spec =
     tie.close
     (tie.spec
-    returns (λ c. search rules) (λ c. search rules) (λ c. search rules) (λ c. search rules) (λ c. search rules)
+    returns-then-not-take (λ c. search rules) (λ c. search rules) (λ c. search rules) (λ c. search rules) (λ c. search rules)
     (λ c. simp length-set (omega arith)) (λ c. search rules) (λ c. search rules) (λ c. simp length-set (omega arith))
-    (λ c. search rules) (λ c. search rules) (λ c. simp length-set (omega arith)) (λ c. search rules) returns-2)
+    (λ c. search rules) (λ c. search rules) (λ c. simp length-set (omega arith)) (λ c. search rules) returns)

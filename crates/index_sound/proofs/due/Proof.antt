@@ -1,11 +1,11 @@
 use Rattle.index_sound.proofs.due.Statement.{statement}
 use Rattle.index_sound.proofs.due.Tie as tie
 
-returns : tie.Need-returns
-returns c = rw c.if1.true
+returns-then-x-used : tie.Need-returns-then-x-used
+returns-then-x-used c = rw c.if-x-used.true
 
-returns-2 : tie.Need-returns-2
-returns-2 c = rw c.if1.false
+returns-else-x-used : tie.Need-returns-else-x-used
+returns-else-x-used c = rw c.if-x-used.false
 
-pub due-spec : {M : Type 1} → statement M
-due-spec = tie.close (tie.spec returns returns-2)
+pub due_spec : {M : Type 1} → statement M
+due_spec = tie.close (tie.spec returns-then-x-used returns-else-x-used)

@@ -8,5 +8,5 @@ due-requires c κs = search rules
 returns : tie.Need-returns
 returns c = rw c.due.ensures
 
-pub slot-right-spec : {M : Type 1} → statement M
-slot-right-spec = tie.close (tie.spec due-requires returns)
+pub slot_right_spec : {M : Type 1} → statement M
+slot_right_spec = tie.close (tie.spec due-requires returns)

@@ -2,13 +2,13 @@ use Rattle.index_types.specs.Boxes.{greatest}
 use Rattle.index_types.proofs.max_t.Statement.{statement}
 use Rattle.index_types.proofs.max_t.Tie as tie
 
-returns : tie.Need-returns
+returns-then-a-b : tie.Need-returns-then-a-b
 unfolding greatest
-returns c = rw (greatest, c.if1.true)
+returns-then-a-b c = rw (greatest, c.if-a-b.true)
 
-returns-2 : tie.Need-returns-2
+returns-else-a-b : tie.Need-returns-else-a-b
 unfolding greatest
-returns-2 c = rw (greatest, c.if1.false)
+returns-else-a-b c = rw (greatest, c.if-a-b.false)
 
-pub max-t-spec : {M : Type 1} → statement M
-max-t-spec = tie.close (tie.spec returns returns-2)
+pub max_t_spec : {M : Type 1} → statement M
+max_t_spec = tie.close (tie.spec returns-then-a-b returns-else-a-b)

@@ -2,13 +2,13 @@ use Rattle.index_types.specs.Boxes.{least}
 use Rattle.index_types.proofs.min_t.Statement.{statement}
 use Rattle.index_types.proofs.min_t.Tie as tie
 
-returns : tie.Need-returns
+returns-then-b-a : tie.Need-returns-then-b-a
 unfolding least
-returns c = rw (least, c.if1.true)
+returns-then-b-a c = rw (least, c.if-b-a.true)
 
-returns-2 : tie.Need-returns-2
+returns-else-b-a : tie.Need-returns-else-b-a
 unfolding least
-returns-2 c = rw (least, c.if1.false)
+returns-else-b-a c = rw (least, c.if-b-a.false)
 
-pub min-t-spec : {M : Type 1} → statement M
-min-t-spec = tie.close (tie.spec returns returns-2)
+pub min_t_spec : {M : Type 1} → statement M
+min_t_spec = tie.close (tie.spec returns-then-b-a returns-else-b-a)

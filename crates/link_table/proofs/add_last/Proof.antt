@@ -4,45 +4,45 @@ use Rattle.link_table.proofs.Changes.{depth_fits, last_added}
 use Rattle.link_table.proofs.add_last.Statement.{statement}
 use Rattle.link_table.proofs.add_last.Tie as tie
 
-mul-d : tie.Need-overflow-mul-d
-mul-d c = search rules
+offset_bounds-l-at : tie.Need-offset_bounds-l-at
+offset_bounds-l-at c = search rules
 
-element-copy-out-d : tie.Need-element-copy-out-d
-element-copy-out-d c = search rules
+bounds-l-at : tie.Need-bounds-l-at
+bounds-l-at c = search rules
 
-segment-end-requires : tie.Need-segment-end-requires
-segment-end-requires c κs = search rules
+segment_end-e-requires : tie.Need-segment_end-e-requires
+segment_end-e-requires c κs = search rules
 
-insert-at-requires : tie.Need-insert-at-requires
-insert-at-requires c κs = search rules
+insert_at-requires : tie.Need-insert_at-requires
+insert_at-requires c κs = search rules
 
-add-insert-at : tie.Need-overflow-add-insert-at
-add-insert-at c =
-    let Z = c.before.before.before.before.before.before.before in
+overflow_add-d : tie.Need-overflow_add-d
+overflow_add-d c =
+    let Z = c in
     omega (arith, depth_fits Z.args.t1.count Z.args.t1.depth Z.requires.2 Z.args.at Z.requires.0, Z.requires)
 
-insert-at-requires-2 : tie.Need-insert-at-requires-2
-insert-at-requires-2 c κs = search rules
+insert_at-requires-2 : tie.Need-insert_at-requires-2
+insert_at-requires-2 c κs = search rules
 
-add-l : tie.Need-overflow-add-l
-add-l c = search rules
+overflow_add-l : tie.Need-overflow_add-l
+overflow_add-l c = search rules
 
 returns : tie.Need-returns
 returns c =
-    let A = c.before.before.before.before.before.before.before.before.args in
-    let E = c.before.before.before.before.segment-end in
-    last_added A.t1 c.before.before.insert-at.new.0 c.insert-at2.new.0 A.at A.x E.result E.ensures.2 c.before.before.insert-at.ensures.1
-    c.insert-at2.ensures.1
+    let A = c.args in
+    let E = c.segment_end-e in
+    last_added A.t1 c.insert_at.new.0 c.insert_at-2.new.0 A.at A.x E.result E.ensures.2 c.insert_at.ensures.1
+    c.insert_at-2.ensures.1
 
-pub add-last-spec : {M : Type 1} → statement M
-add-last-spec =
+pub add_last_spec : {M : Type 1} → statement M
+add_last_spec =
     tie.close
     (tie.spec
-    mul-d
-    element-copy-out-d
-    segment-end-requires
-    insert-at-requires
-    add-insert-at
-    insert-at-requires-2
-    add-l
+    offset_bounds-l-at
+    bounds-l-at
+    segment_end-e-requires
+    insert_at-requires
+    overflow_add-d
+    insert_at-requires-2
+    overflow_add-l
     returns)

@@ -3,19 +3,19 @@ use Rattle.link_table.proofs.Changes.{root_added}
 use Rattle.link_table.proofs.add_root.Statement.{statement}
 use Rattle.link_table.proofs.add_root.Tie as tie
 
-insert-at-requires : tie.Need-insert-at-requires
-insert-at-requires c κs = search rules
+insert_at-requires : tie.Need-insert_at-requires
+insert_at-requires c κs = search rules
 
-insert-at-requires-2 : tie.Need-insert-at-requires-2
-insert-at-requires-2 c κs = search rules
+insert_at-requires-2 : tie.Need-insert_at-requires-2
+insert_at-requires-2 c κs = search rules
 
-add-l : tie.Need-overflow-add-l
-add-l c = search rules
+overflow_add-l : tie.Need-overflow_add-l
+overflow_add-l c = search rules
 
 returns : tie.Need-returns
 returns c =
-    let A = c.before.before.before.before.args in
-    root_added A.t1 c.before.before.insert-at.new.0 c.insert-at2.new.0 A.x c.before.before.insert-at.ensures.1 c.insert-at2.ensures.1
+    let A = c.args in
+    root_added A.t1 c.insert_at.new.0 c.insert_at-2.new.0 A.x c.insert_at.ensures.1 c.insert_at-2.ensures.1
 
-pub add-root-spec : {M : Type 1} → statement M
-add-root-spec = tie.close (tie.spec insert-at-requires insert-at-requires-2 add-l returns)
+pub add_root_spec : {M : Type 1} → statement M
+add_root_spec = tie.close (tie.spec insert_at-requires insert_at-requires-2 overflow_add-l returns)

@@ -3,17 +3,17 @@ use Rattle.numbers.proofs.Numbers.{abs_below, abs_zero, abs_above}
 use Rattle.numbers.proofs.abs.Statement.{statement}
 use Rattle.numbers.proofs.abs.Tie as tie
 
-returns : tie.Need-returns
+returns-then-x : tie.Need-returns-then-x
 unfolding of_bits of_fields odd
-returns c = abs_below c.before.args.x c.if1.true
+returns-then-x c = abs_below c.args.x c.if-x.true
 
-returns-2 : tie.Need-returns-2
+returns-then-x-2 : tie.Need-returns-then-x-2
 unfolding of_bits of_fields odd
-returns-2 c = abs_zero c.before.before.args.x c.before.before.well-formed.0.1 c.if2.true
+returns-then-x-2 c = abs_zero c.args.x c.well_formed.0.1 c.if-x-2.true
 
-returns-3 : tie.Need-returns-3
+returns-else-x-2 : tie.Need-returns-else-x-2
 unfolding of_bits of_fields odd
-returns-3 c = abs_above c.before.before.args.x c.before.if1.false c.if2.false
+returns-else-x-2 c = abs_above c.args.x c.if-x.false c.if-x-2.false
 
-pub abs-spec : {M : Type 1} → statement M
-abs-spec = tie.close (tie.spec returns returns-2 returns-3)
+pub abs_spec : {M : Type 1} → statement M
+abs_spec = tie.close (tie.spec returns-then-x returns-then-x-2 returns-else-x-2)

@@ -7,5 +7,5 @@ returns : tie.Need-returns
 unfolding div neg of_bits of_fields round units odd size span climb
 returns c = between c.args.x
 
-pub is-finite-spec : {M : Type 1} → statement M
-is-finite-spec = tie.close (tie.spec returns)
+pub is_finite_spec : {M : Type 1} → statement M
+is_finite_spec = tie.close (tie.spec returns)

@@ -3,14 +3,14 @@ use Rattle.numbers.proofs.Numbers.{ne_self, max_other, max_second, max_first}
 use Rattle.numbers.proofs.max.Statement.{statement}
 use Rattle.numbers.proofs.max.Tie as tie
 
-returns : tie.Need-returns
-returns c = sym (max_other c.before.args.x c.before.args.y (sym (ne_self c.before.args.x) ∙ c.if1.true))
+returns-then-x : tie.Need-returns-then-x
+returns-then-x c = sym (max_other c.args.x c.args.y (sym (ne_self c.args.x) ∙ c.if-x.true))
 
-returns-2 : tie.Need-returns-2
-returns-2 c = sym (max_second c.before.before.args.x c.before.before.args.y c.if2.true)
+returns-then-x-y : tie.Need-returns-then-x-y
+returns-then-x-y c = sym (max_second c.args.x c.args.y c.if-x-y.true)
 
-returns-3 : tie.Need-returns-3
-returns-3 c = sym (max_first c.before.before.args.x c.before.before.args.y (sym (ne_self c.before.before.args.x) ∙ c.before.if1.false) c.if2.false)
+returns-else-x-y : tie.Need-returns-else-x-y
+returns-else-x-y c = sym (max_first c.args.x c.args.y (sym (ne_self c.args.x) ∙ c.if-x.false) c.if-x-y.false)
 
-pub max-spec : {M : Type 1} → statement M
-max-spec = tie.close (tie.spec returns returns-2 returns-3)
+pub max_spec : {M : Type 1} → statement M
+max_spec = tie.close (tie.spec returns-then-x returns-then-x-y returns-else-x-y)

@@ -3,14 +3,14 @@ use Rattle.numbers.proofs.Numbers.{ne_self, min_other, min_second, min_first}
 use Rattle.numbers.proofs.min.Statement.{statement}
 use Rattle.numbers.proofs.min.Tie as tie
 
-returns : tie.Need-returns
-returns c = sym (min_other c.before.args.x c.before.args.y (sym (ne_self c.before.args.x) ∙ c.if1.true))
+returns-then-x : tie.Need-returns-then-x
+returns-then-x c = sym (min_other c.args.x c.args.y (sym (ne_self c.args.x) ∙ c.if-x.true))
 
-returns-2 : tie.Need-returns-2
-returns-2 c = sym (min_second c.before.before.args.x c.before.before.args.y c.if2.true)
+returns-then-y-x : tie.Need-returns-then-y-x
+returns-then-y-x c = sym (min_second c.args.x c.args.y c.if-y-x.true)
 
-returns-3 : tie.Need-returns-3
-returns-3 c = sym (min_first c.before.before.args.x c.before.before.args.y (sym (ne_self c.before.before.args.x) ∙ c.before.if1.false) c.if2.false)
+returns-else-y-x : tie.Need-returns-else-y-x
+returns-else-y-x c = sym (min_first c.args.x c.args.y (sym (ne_self c.args.x) ∙ c.if-x.false) c.if-y-x.false)
 
-pub min-spec : {M : Type 1} → statement M
-min-spec = tie.close (tie.spec returns returns-2 returns-3)
+pub min_spec : {M : Type 1} → statement M
+min_spec = tie.close (tie.spec returns-then-x returns-then-y-x returns-else-y-x)

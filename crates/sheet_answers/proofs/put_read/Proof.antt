@@ -7,45 +7,45 @@ use Rattle.sheet_answers.proofs.Lines.{few_taps, all_ready, line_low}
 use Rattle.sheet_answers.proofs.put_read.Statement.{statement}
 use Rattle.sheet_answers.proofs.put_read.Tie as tie
 
-enum-known-answer : tie.Need-enum-known-answer
-enum-known-answer c = search rules
+enum_known-answer : tie.Need-enum_known-answer
+enum_known-answer c = search rules
 
-put-refused-requires : tie.Need-put-refused-requires
-put-refused-requires c κs =
-    let a = c.before.before.answer.given in
-    let s = c.before.before.before.before.before in
+put_refused-requires : tie.Need-put_refused-requires
+put_refused-requires c κs =
+    let a = c.answer-1.given in
+    let s = c.before.before.before in
     let y = s.requires.0 in
     (line_low y.0 s.args.p y.1 a.0.0 a.0.1.0 a.1, s.requires.1)
 
-enum_told : tie.Need-enum-told
-enum_told c = search rules
+enum_told-1 : tie.Need-enum_told-1
+enum_told-1 c = search rules
 
-put-sheet-requires : tie.Need-put-sheet-requires
-put-sheet-requires c κs =
-    let s = c.before.before.before.before in
+put_sheet-requires : tie.Need-put_sheet-requires
+put_sheet-requires c κs =
+    let s = c.before.before.before in
     let y = s.requires.0 in
-    let e = c.before.enum_told.given.1 in
+    let e = c.in-Sheet.is in
     (few_taps y.0 s.args.p y.1 e, all_ready y.0 s.args.p y.1 e, s.requires.1)
 
-same_length : tie.Need-same-length
-same_length c = search rules
+shape_of-room-in-Refused : tie.Need-shape_of-room-in-Refused
+shape_of-room-in-Refused c = search rules
 
-returns : tie.Need-returns
-returns c =
+returns-in-Refused : tie.Need-returns-in-Refused
+returns-in-Refused c =
     let q = c.before.before in
-    let a = c.before.before.before.before.before.answer.given in
-    let s = c.before.before.before.before.before.before.before.before in
+    let a = c.answer-1.given in
+    let s = c.before.before.before.before.before.before in
     subst (Stored s.args.room.now q.Put-refused.new.1.1.0 0 q.Put-refused.result) (sym (ap (text_by s.args.p) a.1)) q.Put-refused.ensures
 
-same-length-2 : tie.Need-same-length-2
-same-length-2 c = search rules
+shape_of-room-in-Sheet : tie.Need-shape_of-room-in-Sheet
+shape_of-room-in-Sheet c = search rules
 
-returns-2 : tie.Need-returns-2
-returns-2 c =
+returns-in-Sheet : tie.Need-returns-in-Sheet
+returns-in-Sheet c =
     let q = c.before.before in
-    let e = c.before.before.before.before.enum_told.given in
-    let s = c.before.before.before.before.before.before.before in
-    subst (Stored s.args.room.now q.put-sheet.new.1.0 0 q.put-sheet.result) (sym (ap (text_by s.args.p) e.1)) q.put-sheet.ensures
+    let e = c.enum_told-1.given in
+    let s = c.before.before.before.before.before.before in
+    subst (Stored s.args.room.now q.put_sheet.new.1.0 0 q.put_sheet.result) (sym (ap (text_by s.args.p) e.1)) q.put_sheet.ensures
 
-pub put-read-spec : {M : Type 1} → statement M
-put-read-spec = tie.close (tie.spec enum-known-answer put-refused-requires enum_told put-sheet-requires same_length returns same-length-2 returns-2)
+pub put_read_spec : {M : Type 1} → statement M
+put_read_spec = tie.close (tie.spec enum_known-answer put_refused-requires enum_told-1 put_sheet-requires shape_of-room-in-Refused returns-in-Refused shape_of-room-in-Sheet returns-in-Sheet)

@@ -4,31 +4,31 @@ use mir.ValLaws.{to_z-of_z}
 use Rattle.sheet_records.proofs.bounds.Statement.{statement}
 use Rattle.sheet_records.proofs.bounds.Tie as tie
 
-real-requires : tie.Need-real-requires
-real-requires c κs = tt
+real-a-requires : tie.Need-real-a-requires
+real-a-requires c κs = tt
 
-real-requires-2 : tie.Need-real-requires-2
-real-requires-2 c κs = tt
+real-b-requires : tie.Need-real-b-requires
+real-b-requires c κs = tt
 
-real-requires-3 : tie.Need-real-requires-3
-real-requires-3 c κs = tt
+real-c-requires : tie.Need-real-c-requires
+real-c-requires c κs = tt
 
-real-requires-4 : tie.Need-real-requires-4
-real-requires-4 c κs = tt
+real-d-requires : tie.Need-real-d-requires
+real-d-requires c κs = tt
 
 returns : tie.Need-returns
 returns c =
     let s = c.before.before.before.before in
     rw (
-      c.real4.ensures,
-      c.before.real3.ensures,
-      c.before.before.real2.ensures,
-      c.before.before.before.real.ensures,
+      c.real-d.ensures,
+      c.real-c.ensures,
+      c.real-b.ensures,
+      c.real-a.ensures,
       to_z-of_z w64 s.args.x0 s.ranges.x0,
       to_z-of_z w64 s.args.y0 s.ranges.y0,
       to_z-of_z w64 s.args.x1 s.ranges.x1,
       to_z-of_z w64 s.args.y1 s.ranges.y1,
     )
 
-pub bounds-spec : {M : Type 1} → statement M
-bounds-spec = tie.close (tie.spec real-requires real-requires-2 real-requires-3 real-requires-4 returns)
+pub bounds_spec : {M : Type 1} → statement M
+bounds_spec = tie.close (tie.spec real-a-requires real-b-requires real-c-requires real-d-requires returns)

@@ -11,16 +11,16 @@ use Rattle.sheet_tree.proofs.Last.{committed}
 use Rattle.sheet_tree.proofs.build.Statement.{statement}
 use Rattle.sheet_tree.proofs.build.Tie as tie
 
-insert-all-requires : tie.Need-insert-all-requires
-insert-all-requires c κs = search rules
+insert_all-t-requires : tie.Need-insert_all-t-requires
+insert_all-t-requires c κs = search rules
 
-slice-aggregate-commit-sound : tie.Need-slice-aggregate-commit-sound
-slice-aggregate-commit-sound c = search rules
+slice_bounds-commit_sound-end : tie.Need-slice_bounds-commit_sound-end
+slice_bounds-commit_sound-end c = search rules
 
-commit-sound-requires : tie.Need-commit-sound-requires
-commit-sound-requires c κs =
-    let A = c.before.before.args in
-    (ap sound_tree c.before.insert_all.ensures ∙ sound_up_to (sheet_of A.places.now A.n A.clips.now A.m) A.n, search rules)
+commit_sound-done-requires : tie.Need-commit_sound-done-requires
+commit_sound-done-requires c κs =
+    let A = c.args in
+    (ap sound_tree c.insert_all-t.ensures ∙ sound_up_to (sheet_of A.places.now A.n A.clips.now A.m) A.n, search rules)
 
 returns : tie.Need-returns
 returns c =
@@ -28,9 +28,9 @@ returns c =
     let i = k.before.before in
     let s = i.before in
     let A = s.args in
-    ap (λ (d : Done). d.tree) k.commit_sound.ensures.0
-    ∙ ap (λ (t : Tree). (commit_tree t).tree) i.insert_all.ensures
+    ap (λ (d : Done). d.tree) k.commit_sound-done.ensures.0
+    ∙ ap (λ (t : Tree). (commit_tree t).tree) i.insert_all-t.ensures
     ∙ committed A.places.now A.n A.clips.now A.m s.requires
 
-pub build-spec : {M : Type 1} → statement M
-build-spec = tie.close (tie.spec insert-all-requires slice-aggregate-commit-sound commit-sound-requires returns)
+pub build_spec : {M : Type 1} → statement M
+build_spec = tie.close (tie.spec insert_all-t-requires slice_bounds-commit_sound-end commit_sound-done-requires returns)

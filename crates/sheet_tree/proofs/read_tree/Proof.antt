@@ -5,18 +5,18 @@ use Rattle.sheet_tree.proofs.Trees.{good_rows, yields}
 use Rattle.sheet_tree.proofs.read_tree.Statement.{statement}
 use Rattle.sheet_tree.proofs.read_tree.Tie as tie
 
-read-sheet-requires : tie.Need-read-sheet-requires
-read-sheet-requires c κs = tt
+read_sheet-p-requires : tie.Need-read_sheet-p-requires
+read_sheet-p-requires c κs = tt
 
-build-requires : tie.Need-build-requires
-build-requires c κs =
-    let r = c.before.before.before.read-sheet in
+build-tree-requires : tie.Need-build-tree-requires
+build-tree-requires c κs =
+    let r = c.read_sheet-p in
     good_untapped (sheet_of r.result) (good_rows _ r.result r.ensures.0 r.ensures.1)
 
 returns : tie.Need-returns
 returns c =
-    let r = c.before.before.before.before.before.read-sheet in
-    yields _ r.result r.ensures.0 r.ensures.1 c.before.build.result c.before.build.ensures
+    let r = c.read_sheet-p in
+    yields _ r.result r.ensures.0 r.ensures.1 c.build-tree.result c.build-tree.ensures
 
-pub read-tree-spec : {M : Type 1} → statement M
-read-tree-spec = tie.close (tie.spec read-sheet-requires build-requires returns)
+pub read_tree_spec : {M : Type 1} → statement M
+read_tree_spec = tie.close (tie.spec read_sheet-p-requires build-tree-requires returns)

@@ -9,47 +9,47 @@ use Rattle.tree_damage.specs.Damage.{join_all, joined}
 use Rattle.tree_damage.proofs.join_all.Statement.{statement}
 use Rattle.tree_damage.proofs.join_all.Tie as tie
 
-abbrev invariant-loop : tie.invariant-loop
-invariant-loop room n u₀ i₀ u i = (i ≤ n) × (4 * n ≤ length room) × (u ≡ joined (rects_of room i))
+abbrev invariant-loop-i : tie.invariant-loop-i
+invariant-loop-i room n u₀ i₀ u i = (i ≤ n) × (4 * n ≤ length room) × (u ≡ joined (rects_of room i))
 
-abbrev decreases-loop : tie.decreases-loop
-decreases-loop room n u₀ i₀ u i = n - i
+abbrev decreases-loop-i : tie.decreases-loop-i
+decreases-loop-i room n u₀ i₀ u i = n - i
 
-loop-holds : tie.Need-loop-init invariant-loop decreases-loop
+loop-i-init : tie.Need-loop-i-init invariant-loop-i decreases-loop-i
 unfolding join_all rects_of
-loop-holds c = (omega arith, c.before.requires, refl)
+loop-i-init c = (omega arith, c.requires, refl)
 
-rect-in-requires : tie.Need-rect-in-requires invariant-loop decreases-loop
-rect-in-requires c κs = search rules
+rect_in-requires : tie.Need-rect_in-requires invariant-loop-i decreases-loop-i
+rect_in-requires c κs = search rules
 
-with-rect-requires : tie.Need-with-rect-requires invariant-loop decreases-loop
-with-rect-requires c κs = search rules
+with_rect-u-requires : tie.Need-with_rect-u-requires invariant-loop-i decreases-loop-i
+with_rect-u-requires c κs = search rules
 
-add-i : tie.Need-overflow-add-i invariant-loop decreases-loop
-add-i c = search rules
+overflow_add-i : tie.Need-overflow_add-i invariant-loop-i decreases-loop-i
+overflow_add-i c = search rules
 
-loop-less : tie.Need-loop-smaller invariant-loop decreases-loop
-loop-less c = search rules
+loop-i-smaller : tie.Need-loop-i-smaller invariant-loop-i decreases-loop-i
+loop-i-smaller c = search rules
 
-loop-again : tie.Need-loop-preserved invariant-loop decreases-loop
-loop-again c =
-    let L = c.before.before.before.loop in
-    let A = c.before.before.before.before.before.args in
-    (omega arith, L.invariant.1, rw (c.with-rect.ensures, c.before.rect-in.ensures, L.invariant.2) (sym (rects_next A.room.now L.i)))
+loop-i-preserved : tie.Need-loop-i-preserved invariant-loop-i decreases-loop-i
+loop-i-preserved c =
+    let L = c.loop-i in
+    let A = c.args in
+    (omega arith, L.invariant.1, rw (c.with_rect-u.ensures, c.rect_in.ensures, L.invariant.2) (sym (rects_next A.room.now L.i)))
 
-returns : tie.Need-returns invariant-loop decreases-loop
-returns c = let L = c.before.loop in let e : L.i ≡ c.before.before.before.args.n = omega arith in rw (← e) L.invariant.2
+returns : tie.Need-returns invariant-loop-i decreases-loop-i
+returns c = let L = c.loop-i in let e : L.i ≡ c.args.n = omega arith in rw (← e) L.invariant.2
 
-pub join-all-spec : {M : Type 1} → statement M
-join-all-spec =
+pub join_all_spec : {M : Type 1} → statement M
+join_all_spec =
     tie.close
     (tie.spec
-    invariant-loop
-    decreases-loop
-    loop-holds
-    rect-in-requires
-    with-rect-requires
-    add-i
-    loop-less
-    loop-again
+    invariant-loop-i
+    decreases-loop-i
+    loop-i-init
+    rect_in-requires
+    with_rect-u-requires
+    overflow_add-i
+    loop-i-smaller
+    loop-i-preserved
     returns)

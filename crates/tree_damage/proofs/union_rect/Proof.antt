@@ -6,16 +6,16 @@ use Rattle.tree_damage.specs.Damage.{union_rect}
 use Rattle.tree_damage.proofs.union_rect.Statement.{statement}
 use Rattle.tree_damage.proofs.union_rect.Tie as tie
 
+returns-then-room-count : tie.Need-returns-then-room-count
+unfolding union_rect
+returns-then-room-count c = let A = c.args in rw (lt-ltb (length A.room.now / 4) A.count c.if-room-count.true)
+
+join_all-requires : tie.Need-join_all-requires
+join_all-requires c κs = let A = c.args in long (length A.room.now) A.count c.if-room-count.false
+
 returns : tie.Need-returns
 unfolding union_rect
-returns c = let A = c.before.before.args in rw (lt-ltb (length A.room.now / 4) A.count c.if1.true)
+returns c = let A = c.args in rw (le-ltb (length A.room.now / 4) A.count c.if-room-count.false, c.join_all.ensures)
 
-join-all-requires : tie.Need-join-all-requires
-join-all-requires c κs = let A = c.before.before.args in long (length A.room.now) A.count c.if1.false
-
-returns-2 : tie.Need-returns-2
-unfolding union_rect
-returns-2 c = let A = c.before.before.before.args in rw (le-ltb (length A.room.now / 4) A.count c.before.if1.false, c.join-all.ensures)
-
-pub union-rect-spec : {M : Type 1} → statement M
-union-rect-spec = tie.close (tie.spec returns join-all-requires returns-2)
+pub union_rect_spec : {M : Type 1} → statement M
+union_rect_spec = tie.close (tie.spec returns-then-room-count join_all-requires returns)

@@ -4,38 +4,38 @@ use borrow.Author.Rules.{rules}
 use Rattle.tree_insert.proofs.link_parent.Statement.{statement}
 use Rattle.tree_insert.proofs.link_parent.Tie as tie
 
-enum_told : tie.Need-enum-told
-enum_told c = search rules
+enum_told-1 : tie.Need-enum_told-1
+enum_told-1 c = search rules
 
-add-root-requires : tie.Need-add-root-requires
-add-root-requires c κs = search rules
+add_root-requires : tie.Need-add_root-requires
+add_root-requires c κs = search rules
 
-enum-known-parent : tie.Need-enum-known-parent
-enum-known-parent c = search rules
+enum_known-parent : tie.Need-enum_known-parent
+enum_known-parent c = search rules
 
-position-requires : tie.Need-position-requires
-position-requires c κs = search rules
+position-at-requires : tie.Need-position-at-requires
+position-at-requires c κs = search rules
 
-add-last-requires : tie.Need-add-last-requires
-add-last-requires c κs =
-    let Z = c.before.before.before.before.before.before.before in
-    let h = c.before.before.before.before.parent.given in
-    (omega (arith, c.position.ensures.1, placed_some Z.args.t Z.args.parent h.0.0 h.1 Z.requires.2), Z.requires.0, Z.requires.1)
+add_last-requires : tie.Need-add_last-requires
+add_last-requires c κs =
+    let Z = c in
+    let h = c.parent-1.given in
+    (omega (arith, c.position-at.ensures.1, placed_some Z.args.t Z.args.parent h.0.0 h.1 Z.requires.2), Z.requires.0, Z.requires.1)
 
-returns : tie.Need-returns
-returns c = rw (c.add-root.ensures, c.before.enum_told.given.1)
+returns-in-None : tie.Need-returns-in-None
+returns-in-None c = rw (c.add_root.ensures, c.in-None.is)
 
-returns-2 : tie.Need-returns-2
-returns-2 c = rw (c.add-last.ensures, c.before.position.ensures.1, c.before.before.before.before.before.parent.given.1)
+returns-in-Some : tie.Need-returns-in-Some
+returns-in-Some c = rw (c.add_last.ensures, c.position-at.ensures.1, c.in-Some.is)
 
-pub link-parent-spec : {M : Type 1} → statement M
-link-parent-spec =
+pub link_parent_spec : {M : Type 1} → statement M
+link_parent_spec =
     tie.close
     (tie.spec
-    enum_told
-    add-root-requires
-    enum-known-parent
-    position-requires
-    add-last-requires
-    returns
-    returns-2)
+    enum_told-1
+    add_root-requires
+    enum_known-parent
+    position-at-requires
+    add_last-requires
+    returns-in-None
+    returns-in-Some)

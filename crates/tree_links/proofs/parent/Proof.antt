@@ -12,48 +12,48 @@ use Rattle.tree_links.proofs.walks.Links.{find_needs, place_low, parent_at, pare
 use Rattle.tree_links.proofs.parent.Statement.{statement}
 use Rattle.tree_links.proofs.parent.Tie as tie
 
-position-requires : tie.Need-position-requires
-position-requires c κs =
-    let s = c.before.before in
+position-at-requires : tie.Need-position-at-requires
+position-at-requires c κs =
+    let s = c in
     let t = s.args.t1 in
-    find_needs t (sized t s.well-formed.0) s.requires.0 s.args.x s.requires.1
+    find_needs t (sized t s.well_formed.0) s.requires.0 s.args.x s.requires.1
 
-parent-at-requires : tie.Need-parent-at-requires
-parent-at-requires c κs =
+parent_at-q-requires : tie.Need-parent_at-q-requires
+parent_at-q-requires c κs =
     let p = c.before.before.before in
-    let s = p.before.before.before in
+    let s = p in
     let t = s.args.t1 in
-    let z = sized t s.well-formed.0 in
-    (omega (arith, p.position.ensures.1, place_low t z s.requires.0 s.args.x s.requires.1), z.order, z.depth)
+    let z = sized t s.well_formed.0 in
+    (omega (arith, p.position-at.ensures.1, place_low t z s.requires.0 s.args.x s.requires.1), z.order, z.depth)
 
 -- what is found is the parent's slot, or 256
-found : (c : tie.After-parent-at) → let s = c.before.before.before.before.before.before.before in c.parent_at_lem.result ≡ parent_at s.args.t1 s.args.x
+found : (c : tie.After-parent_at-q) → let s = c in c.parent_at-q.result ≡ parent_at s.args.t1 s.args.x
 found c =
     let p = c.before.before.before.before in
-    let L = p.before.before.before.args.t1.links in
-    c.parent_at_lem.ensures ∙ ap (λ (n : ℕ). last_above (get_or L.depth n 0) 256 (take n L.order) (take n L.depth)) p.position.ensures.1
+    let L = p.args.t1.links in
+    c.parent_at-q.ensures ∙ ap (λ (n : ℕ). last_above (get_or L.depth n 0) 256 (take n L.order) (take n L.depth)) p.position-at.ensures.1
 
-returns : tie.Need-returns
-returns c =
+returns-then-q-eq256 : tie.Need-returns-then-q-eq256
+returns-then-q-eq256 c =
     let q = c.before in
-    let s = q.before.before.before.before.before.before.before in
+    let s = q in
     let t = s.args.t1 in
-    parent_none t s.args.x (sized t s.well-formed.0) s.requires.0 s.requires.1 (sym (found q) ∙ c.if1.true)
+    parent_none t s.args.x (sized t s.well_formed.0) s.requires.0 s.requires.1 (sym (found q) ∙ c.if-q-eq256.true)
 
-there : (c : tie.Else1) → let q = c.before in let s = q.before.before.before.before.before.before.before in
-    (q.parent_at_lem.result < 256) × (link.Some (id_at s.args.t1 q.parent_at_lem.result) ≡ link_of (parent_of s.args.t1 s.args.x))
+there : (c : tie.Else-q-eq256) → let q = c.before in let s = q in
+    (q.parent_at-q.result < 256) × (link.Some (id_at s.args.t1 q.parent_at-q.result) ≡ link_of (parent_of s.args.t1 s.args.x))
 there c =
     let q = c.before in
-    let s = q.before.before.before.before.before.before.before in
+    let s = q in
     let t = s.args.t1 in
-    rw (found q) (parent_some t s.args.x (sized t s.well-formed.0) s.requires.0 s.requires.1 (λ z. c.if1.false (found q ∙ z)))
+    rw (found q) (parent_some t s.args.x (sized t s.well_formed.0) s.requires.0 s.requires.1 (λ z. c.if-q-eq256.false (found q ∙ z)))
 
-id-of-requires : tie.Need-id-of-requires
-id-of-requires c κs = (there c.before.before).0
+id_of-requires : tie.Need-id_of-requires
+id_of-requires c κs = (there c.before.before).0
 
-returns-2 : tie.Need-returns-2
-returns-2 c = ap link.Some c.id-of.ensures ∙ (there c.before.before.before).1
+returns : tie.Need-returns
+returns c = ap link.Some c.id_of.ensures ∙ (there c.before.before.before).1
 
-pub parent-spec : {M : Type 1} → statement M
-parent-spec =
-    tie.close (tie.spec position-requires parent-at-requires returns id-of-requires returns-2)
+pub parent_spec : {M : Type 1} → statement M
+parent_spec =
+    tie.close (tie.spec position-at-requires parent_at-q-requires returns-then-q-eq256 id_of-requires returns)

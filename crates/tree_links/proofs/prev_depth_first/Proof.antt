@@ -6,31 +6,31 @@ use Rattle.tree_readings.specs.answers.Answers.{node_if}
 use Rattle.tree_links.proofs.prev_depth_first.Statement.{statement}
 use Rattle.tree_links.proofs.prev_depth_first.Tie as tie
 
-of-node-requires : tie.Need-of-node-requires
-of-node-requires c κs = search rules
+of_node-requires : tie.Need-of_node-requires
+of_node-requires c κs = search rules
 
-enum-known-r : tie.Need-enum-known-r
-enum-known-r c = search rules
+enum_known-r : tie.Need-enum_known-r
+enum_known-r c = search rules
 
-enum_told : tie.Need-enum-told
-enum_told c = search rules
+enum_told-1 : tie.Need-enum_told-1
+enum_told-1 c = search rules
 
-prev-in-order-requires : tie.Need-prev-in-order-requires
-prev-in-order-requires c κs =
-    let n = c.before.before in
+prev_in_order-requires : tie.Need-prev_in_order-requires
+prev_in_order-requires c κs =
+    let n = c.before in
     let s = n.before in
-    let N = node_accepted s.args.t (sized s.args.t s.well-formed.0) s.args.id (sym n.of_node_lem.ensures ∙ c.enum_told.given.1) in
+    let N = node_accepted s.args.t (sized s.args.t s.well_formed.0) s.args.id (sym n.of_node.ensures ∙ c.in-Accepted.is) in
     (N.whole.test, N.is_live_lem)
 
-returns : tie.Need-returns
+returns-in-Refused : tie.Need-returns-in-Refused
 unfolding node_if
-returns c = let n = c.before.before.before in rw (← n.of_node_lem.ensures, c.before.r.given.1)
+returns-in-Refused c = let n = c.before in rw (← n.of_node.ensures, c.in-Refused.is)
 
-returns-2 : tie.Need-returns-2
+returns-in-Accepted : tie.Need-returns-in-Accepted
 unfolding node_if
-returns-2 c = let e = c.before in rw (← e.before.before.of_node_lem.ensures, e.enum_told.given.1, c.prev-in-order.ensures)
+returns-in-Accepted c = let e = c.before in rw (← e.of_node.ensures, e.in-Accepted.is, c.prev_in_order.ensures)
 
-pub prev-depth-first-spec : {M : Type 1} → statement M
-prev-depth-first-spec =
+pub prev_depth_first_spec : {M : Type 1} → statement M
+prev_depth_first_spec =
     tie.close
-    (tie.spec of-node-requires enum-known-r enum_told prev-in-order-requires returns returns-2)
+    (tie.spec of_node-requires enum_known-r enum_told-1 prev_in_order-requires returns-in-Refused returns-in-Accepted)

@@ -10,27 +10,27 @@ use Rattle.tree_readings.proofs.is_alive.Tie as tie
 held-requires : tie.Need-held-requires
 held-requires c κs = search rules
 
-enum-known-r : tie.Need-enum-known-r
-enum-known-r c = search rules
+enum_known-r : tie.Need-enum_known-r
+enum_known-r c = search rules
 
-enum_told : tie.Need-enum-told
-enum_told c = search rules
+enum_told-1 : tie.Need-enum_told-1
+enum_told-1 c = search rules
 
-is-live-requires : tie.Need-is-live-requires
-is-live-requires c κs =
-    let e = c.before.before.before in
+is_live-requires : tie.Need-is_live-requires
+is_live-requires c κs =
+    let e = c in
     let n = e.before.before in
-    let s = n.before in
-    let z = sized s.args.t1 s.well-formed.0 in
-    live_needs s.args.t1 z (held_accepted s.args.t1 z (sym n.held.ensures ∙ e.enum_told.given.1))
+    let s = n in
+    let z = sized s.args.t1 s.well_formed.0 in
+    live_needs s.args.t1 z (held_accepted s.args.t1 z (sym n.held.ensures ∙ e.in-Accepted.is))
 
-returns : tie.Need-returns
+returns-in-Refused : tie.Need-returns-in-Refused
 unfolding bool_if
-returns c = let n = c.before.before.before in rw (← n.held.ensures, c.before.r.given.1)
+returns-in-Refused c = let n = c.before in rw (← n.held.ensures, c.in-Refused.is)
 
-returns-2 : tie.Need-returns-2
+returns-in-Accepted : tie.Need-returns-in-Accepted
 unfolding bool_if live
-returns-2 c = let e = c.before.before.before.before in rw (← e.before.before.held.ensures, e.enum_told.given.1, c.is_live_lem.ensures)
+returns-in-Accepted c = let e = c in rw (← e.held.ensures, e.in-Accepted.is, c.is_live.ensures)
 
-pub is-alive-spec : {M : Type 1} → statement M
-is-alive-spec = tie.close (tie.spec held-requires enum-known-r enum_told is-live-requires returns returns-2)
+pub is_alive_spec : {M : Type 1} → statement M
+is_alive_spec = tie.close (tie.spec held-requires enum_known-r enum_told-1 is_live-requires returns-in-Refused returns-in-Accepted)

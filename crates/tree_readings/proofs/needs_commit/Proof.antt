@@ -9,25 +9,25 @@ use Rattle.tree_readings.proofs.needs_commit.Tie as tie
 held-requires : tie.Need-held-requires
 held-requires c κs = search rules
 
-enum-known-r : tie.Need-enum-known-r
-enum-known-r c = search rules
+enum_known-r : tie.Need-enum_known-r
+enum_known-r c = search rules
 
-enum_told : tie.Need-enum-told
-enum_told c = search rules
+enum_told-1 : tie.Need-enum_told-1
+enum_told-1 c = search rules
 
-needs-commit-requires : tie.Need-needs-commit-requires
-needs-commit-requires c κs =
-    let n = c.before.before in
+needs_commit-requires : tie.Need-needs_commit-requires
+needs_commit-requires c κs =
+    let n = c.before in
     let s = n.before in
-    (held_accepted s.args.t (sized s.args.t s.well-formed.0) (sym n.held.ensures ∙ c.enum_told.given.1)).test
+    (held_accepted s.args.t (sized s.args.t s.well_formed.0) (sym n.held.ensures ∙ c.in-Accepted.is)).test
 
-returns : tie.Need-returns
+returns-in-Refused : tie.Need-returns-in-Refused
 unfolding bool_if
-returns c = let n = c.before.before.before in rw (← n.held.ensures, c.before.r.given.1)
+returns-in-Refused c = let n = c.before in rw (← n.held.ensures, c.in-Refused.is)
 
-returns-2 : tie.Need-returns-2
+returns-in-Accepted : tie.Need-returns-in-Accepted
 unfolding bool_if
-returns-2 c = let e = c.before in rw (← e.before.before.held.ensures, e.enum_told.given.1, c.needs_commit_lem.ensures)
+returns-in-Accepted c = let e = c.before in rw (← e.held.ensures, e.in-Accepted.is, c.needs_commit.ensures)
 
-pub needs-commit-spec : {M : Type 1} → statement M
-needs-commit-spec = tie.close (tie.spec held-requires enum-known-r enum_told needs-commit-requires returns returns-2)
+pub needs_commit_spec : {M : Type 1} → statement M
+needs_commit_spec = tie.close (tie.spec held-requires enum_known-r enum_told-1 needs_commit-requires returns-in-Refused returns-in-Accepted)

@@ -12,51 +12,51 @@ use Rattle.tree_readings.specs.answers.Answers.{level_if}
 use Rattle.tree_readings.proofs.z_index.Statement.{statement}
 use Rattle.tree_readings.proofs.z_index.Tie as tie
 
-of-node-requires : tie.Need-of-node-requires
-of-node-requires c κs = search rules
+of_node-requires : tie.Need-of_node-requires
+of_node-requires c κs = search rules
 
-enum-known-r : tie.Need-enum-known-r
-enum-known-r c = search rules
+enum_known-r : tie.Need-enum_known-r
+enum_known-r c = search rules
 
-enum_told : tie.Need-enum-told
-enum_told c = search rules
+enum_told-1 : tie.Need-enum_told-1
+enum_told-1 c = search rules
 
-cast-level-at : tie.Need-overflow-cast-level-at
-cast-level-at c = search rules
+overflow_cast-id : tie.Need-overflow_cast-id
+overflow_cast-id c = search rules
 
-level-at-requires : tie.Need-level-at-requires
-level-at-requires c κs =
-    let e = c.before.before.before in
+level_at-requires : tie.Need-level_at-requires
+level_at-requires c κs =
+    let e = c in
     let n = e.before.before in
-    let s = n.before in
-    let told = sym n.of_node_lem.ensures ∙ e.enum_told.given.1 in
-    (node_accepted s.args.t1 (sized s.args.t1 s.well-formed.0) s.args.id told).slot_low
+    let s = n in
+    let told = sym n.of_node.ensures ∙ e.in-Accepted.is in
+    (node_accepted s.args.t1 (sized s.args.t1 s.well_formed.0) s.args.id told).slot_low
 
-returns : tie.Need-returns
+returns-in-Refused : tie.Need-returns-in-Refused
 unfolding level_if
-returns c = let n = c.before.before.before in rw (← n.of_node_lem.ensures, c.before.r.given.1)
+returns-in-Refused c = let n = c.before in rw (← n.of_node.ensures, c.in-Refused.is)
 
 -- a signed number is read back from its bits
 accepted : (v : Verdict) (z : ℤ) → v ≡ is.Accepted → level.Value z ≡ level_if v z
 unfolding level_if
 accepted v z e = rw e
 
-returns-2 : tie.Need-returns-2
+returns-in-Accepted : tie.Need-returns-in-Accepted
 unfolding local_at
-returns-2 c =
-    let e = c.before.before.before.before in
+returns-in-Accepted c =
+    let e = c in
     let n = e.before.before in
-    let told = sym n.of_node_lem.ensures ∙ e.enum_told.given.1 in
-    ap level.Value (to_z-of_z (sfits_of c.level-at.type-inv) ∙ c.level-at.ensures) ∙ accepted _ _ told
+    let told = sym n.of_node.ensures ∙ e.in-Accepted.is in
+    ap level.Value (to_z-of_z (sfits_of c.level_at.type-inv) ∙ c.level_at.ensures) ∙ accepted _ _ told
 
-pub z-index-spec : {M : Type 1} → statement M
-z-index-spec =
+pub z_index_spec : {M : Type 1} → statement M
+z_index_spec =
     tie.close
     (tie.spec
-    of-node-requires
-    enum-known-r
-    enum_told
-    cast-level-at
-    level-at-requires
-    returns
-    returns-2)
+    of_node-requires
+    enum_known-r
+    enum_told-1
+    overflow_cast-id
+    level_at-requires
+    returns-in-Refused
+    returns-in-Accepted)

@@ -2,25 +2,25 @@ use borrow.Author.Rules.{rules}
 use Rattle.tree_reparent.proofs.is_below.Statement.{statement}
 use Rattle.tree_reparent.proofs.is_below.Tie as tie
 
-enum-known-parent : tie.Need-enum-known-parent
-enum-known-parent c = search rules
+enum_known-parent : tie.Need-enum_known-parent
+enum_known-parent c = search rules
 
-enum_told : tie.Need-enum-told
-enum_told c = search rules
+enum_told-1 : tie.Need-enum_told-1
+enum_told-1 c = search rules
+
+returns-in_default : tie.Need-returns-in_default
+returns-in_default c = search rules
+
+position-to-requires : tie.Need-position-to-requires
+position-to-requires c κs = search rules
+
+segment_end-e-requires : tie.Need-segment_end-e-requires
+segment_end-e-requires c κs = search rules
 
 returns : tie.Need-returns
-returns c = search rules
+returns c = rw (c.segment_end-e.ensures.2, c.position-to.ensures.1, c.in-Some.is)
 
-position-requires : tie.Need-position-requires
-position-requires c κs = search rules
-
-segment-end-requires : tie.Need-segment-end-requires
-segment-end-requires c κs = search rules
-
-returns-2 : tie.Need-returns-2
-returns-2 c = rw (c.segment-end.ensures.2, c.before.before.before.position.ensures.1, c.before.before.before.before.before.before.before.parent.given.1)
-
-pub is-below-spec : {M : Type 1} → statement M
-is-below-spec =
+pub is_below_spec : {M : Type 1} → statement M
+is_below_spec =
     tie.close
-    (tie.spec enum-known-parent enum_told returns position-requires segment-end-requires returns-2)
+    (tie.spec enum_known-parent enum_told-1 returns-in_default position-to-requires segment_end-e-requires returns)

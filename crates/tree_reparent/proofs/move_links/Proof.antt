@@ -3,40 +3,40 @@ use borrow.Author.Rules.{rules}
 use Rattle.tree_reparent.proofs.move_links.Statement.{statement}
 use Rattle.tree_reparent.proofs.move_links.Tie as tie
 
-enum_told : tie.Need-enum-told
-enum_told c = search rules
+enum_told-1 : tie.Need-enum_told-1
+enum_told-1 c = search rules
 
-move-root-requires : tie.Need-move-root-requires
-move-root-requires c κs = search rules
+move_root-requires : tie.Need-move_root-requires
+move_root-requires c κs = search rules
 
-enum-known-parent : tie.Need-enum-known-parent
-enum-known-parent c = search rules
+enum_known-parent : tie.Need-enum_known-parent
+enum_known-parent c = search rules
 
-position-requires : tie.Need-position-requires
-position-requires c κs = search rules
+position-to-requires : tie.Need-position-to-requires
+position-to-requires c κs = search rules
 
-move-last-requires : tie.Need-move-last-requires
-move-last-requires c κs =
-    let Z = c.before.before.before.before.before.before in
+move_last-requires : tie.Need-move_last-requires
+move_last-requires c κs =
+    let Z = c in
     let A = Z.args in
-    let h = c.before.before.before.before.parent.given in
-    let o = outside_some A.t1 A.at c.position.result A.parent h.0.0 h.1 Z.requires.3 c.position.ensures.1 in
+    let h = c.parent-1.given in
+    let o = outside_some A.t1 A.at c.position-to.result A.parent h.0.0 h.1 Z.requires.3 c.position-to.ensures.1 in
     (Z.requires.0, o.0, Z.requires.1, o.1, Z.requires.2)
 
-returns : tie.Need-returns
-returns c = rw (c.move-root.ensures, c.before.enum_told.given.1)
+returns-in-None : tie.Need-returns-in-None
+returns-in-None c = rw (c.move_root.ensures, c.in-None.is)
 
-returns-2 : tie.Need-returns-2
-returns-2 c = rw (c.move-last.ensures, c.before.position.ensures.1, c.before.before.before.before.before.parent.given.1)
+returns-in-Some : tie.Need-returns-in-Some
+returns-in-Some c = rw (c.move_last.ensures, c.position-to.ensures.1, c.in-Some.is)
 
-pub move-links-spec : {M : Type 1} → statement M
-move-links-spec =
+pub move_links_spec : {M : Type 1} → statement M
+move_links_spec =
     tie.close
     (tie.spec
-    enum_told
-    move-root-requires
-    enum-known-parent
-    position-requires
-    move-last-requires
-    returns
-    returns-2)
+    enum_told-1
+    move_root-requires
+    enum_known-parent
+    position-to-requires
+    move_last-requires
+    returns-in-None
+    returns-in-Some)

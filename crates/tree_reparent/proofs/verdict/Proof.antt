@@ -12,90 +12,90 @@ use Rattle.tree_reparent.proofs.Moves.{is_below_lem, first, tested, live_both, t
 use Rattle.tree_reparent.proofs.verdict.Statement.{statement}
 use Rattle.tree_reparent.proofs.verdict.Tie as tie
 
-of-node-requires : tie.Need-of-node-requires
-of-node-requires c κs = search rules
+of_node-node-requires : tie.Need-of_node-node-requires
+of_node-node-requires c κs = search rules
 
-of-parent-requires : tie.Need-of-parent-requires
-of-parent-requires c κs =
+of_parent-v-requires : tie.Need-of_parent-v-requires
+of_parent-v-requires c κs =
     let n = c.before.before.before in
-    let Z = n.before in
-    let l = sized Z.args.t1 Z.well-formed.0 in
-    λ e. live_needs Z.args.t1 l (node_accepted Z.args.t1 l Z.args.id (sym n.of_node_lem.ensures ∙ e)).whole
+    let Z = n in
+    let l = sized Z.args.t1 Z.well_formed.0 in
+    λ e. live_needs Z.args.t1 l (node_accepted Z.args.t1 l Z.args.id (sym n.of_node-node.ensures ∙ e)).whole
 
 -- ---- the first tests, and what they give
 
-abbrev start : tie.After-of-parent → tie.Start
-start c = c.before.before.before.before.before
+abbrev start : tie.After-of_parent-v → tie.Start
+start c = c
 
-first-is : (c : tie.After-of-parent) → let A = (start c).args in c.of-parent.result ≡ first A.t1 A.id A.parent
-first-is c =
+first_is : (c : tie.After-of_parent-v) → let A = (start c).args in c.of_parent-v.result ≡ first A.t1 A.id A.parent
+first_is c =
     let A = (start c).args in
-    tested A.t1 A.id A.parent c.before.before.before.before.of_node_lem.result c.of-parent.result c.before.before.before.before.of_node_lem.ensures c.of-parent.ensures
+    tested A.t1 A.id A.parent c.of_node-node.result c.of_parent-v.result c.of_node-node.ensures c.of_parent-v.ensures
 
-abbrev from_told : tie.After-enum-told → tie.After-of-parent
-from_told c = c.before.before
+abbrev from_told : tie.In-Accepted → tie.After-of_parent-v
+from_told c = c.before
 
-both : (c : tie.After-enum-told) → let A = (start (from_told c)).args in Node A.t1 A.id × (parent_live A.t1 A.parent ≡ true)
+both : (c : tie.In-Accepted) → let A = (start (from_told c)).args in Node A.t1 A.id × (parent_live A.t1 A.parent ≡ true)
 both c =
     let k = from_told c in
     let A = (start k).args in
-    live_both A.t1 A.id A.parent k.of-parent.result (start k).good.0 (first-is k) c.enum_told.given.1
+    live_both A.t1 A.id A.parent k.of-parent.result (start k).good.0 (first_is k) c.in-Accepted.is
 
-enum_told : tie.Need-enum-told
-enum_told c = search rules
+enum_told-1 : tie.Need-enum_told-1
+enum_told-1 c = search rules
 
-enum-told-2 : tie.Need-enum-told-2
-enum-told-2 c = search rules
+enum_told-in_default : tie.Need-enum_told-in_default
+enum_told-in_default c = search rules
 
-returns : tie.Need-returns
-returns c =
-    let k = c.before.before in
+returns-in_default : tie.Need-returns-in_default
+returns-in_default c =
+    let k = c.before in
     let A = (start k).args in
-    let q = c.enum-told2.given in
-    checked_stopped (first A.t1 A.id A.parent) k.of-parent.result (not (at_or_below A.t1 (position_of A.t1 A.id.0) A.parent)) no.BelowItself q.0.0 (first-is k) q.1
+    let q = c.enum_told-in_default-1.given in
+    checked_stopped (first A.t1 A.id A.parent) k.of_parent-v.result (not (at_or_below A.t1 (position_of A.t1 A.id.0) A.parent)) no.BelowItself q.0.0 (first_is k) q.1
 
-position-requires : tie.Need-position-requires
-position-requires c κs =
-    let e = c.before.before.before in
+position-at-requires : tie.Need-position-at-requires
+position-at-requires c κs =
+    let e = c in
     let Z = start (from_told e) in
     ((both e).0.whole.count_fits, order_long Z.args.t1 Z.good.0)
 
 -- ---- the node's position
 
-abbrev from-position : tie.After-position → tie.After-enum-told
-from-position c = c.before.before.before.before
+abbrev from_position : tie.After-position-at → tie.In-Accepted
+from_position c = c
 
-at-fits : (c : tie.After-position) → c.position.result < (start (from_told (from-position c))).args.t1.links.count
-at-fits c =
-    let A = (start (from_told (from-position c))).args in
-    place_fits A.t1 A.id c.position.result (both (from-position c)).0 c.position.ensures.1
+at_fits : (c : tie.After-position-at) → c.position-at.result < (start (from_told (from_position c))).args.t1.links.count
+at_fits c =
+    let A = (start (from_told (from_position c))).args in
+    place_fits A.t1 A.id c.position-at.result (both (from_position c)).0 c.position-at.ensures.1
 
-is-below-requires : tie.Need-is-below-requires
-is-below-requires c κs = (at-fits c, (both (from-position c)).0.whole.count_fits)
+is_below-requires : tie.Need-is_below-requires
+is_below-requires c κs = (at_fits c, (both (from_position c)).0.whole.count_fits)
 
 check-requires : tie.Need-check-requires
 check-requires c κs = search rules
 
 -- ---- the last test
 
-returns-2 : tie.Need-returns-2
-returns-2 c =
+returns : tie.Need-returns
+returns c =
     let p = c.before.before in
-    let k = from_told (from-position p) in
+    let k = from_told (from_position p) in
     let A = (start k).args in
-    tested_all A.t1 A.id A.parent k.of-parent.result c.check.result p.position.result c.before.is_below_lem.result (first-is k) p.position.ensures.1
-    (c.before.is_below_lem.ensures ∙ is_below_lem A.t1 p.position.result A.parent) c.check.ensures
+    tested_all A.t1 A.id A.parent k.of-parent.result c.check.result p.position-at.result c.is_below.result (first_is k) p.position-at.ensures.1
+    (c.is_below.ensures ∙ is_below_lem A.t1 p.position-at.result A.parent) c.check.ensures
 
-pub verdict-spec : {M : Type 1} → statement M
-verdict-spec =
+pub verdict_spec : {M : Type 1} → statement M
+verdict_spec =
     tie.close
     (tie.spec
-    of-node-requires
-    of-parent-requires
-    enum_told
-    enum-told-2
-    returns
-    position-requires
-    is-below-requires
+    of_node-node-requires
+    of_parent-v-requires
+    enum_told-1
+    enum_told-in_default
+    returns-in_default
+    position-at-requires
+    is_below-requires
     check-requires
-    returns-2)
+    returns)

@@ -25,54 +25,54 @@ lend c t =
 fits : (c : tie.Start) → Fits (from (lend c c.requires.4.0) c.requires.4.1) c.args.at
 fits c = c.requires.4.3
 
-mul-node : tie.Need-overflow-mul-node
-mul-node c = omega (arith, place_low (fits c.before))
+offset_bounds-order-at : tie.Need-offset_bounds-order-at
+offset_bounds-order-at c = omega (arith, place_low (fits c.before))
 
-element-copy-out-node : tie.Need-element-copy-out-node
-element-copy-out-node c = omega (arith, place_low (fits c.before))
+bounds-order-at : tie.Need-bounds-order-at
+bounds-order-at c = omega (arith, place_low (fits c.before))
 
-cast-x : tie.Need-overflow-cast-x
-cast-x c = omega (arith, slot_low (fits c.before.before))
+overflow_cast-x : tie.Need-overflow_cast-x
+overflow_cast-x c = omega (arith, slot_low (fits c.before.before))
 
-place-node-requires : tie.Need-place-node-requires
-place-node-requires c κs =
+place_node-w-requires : tie.Need-place_node-w-requires
+place_node-w-requires c κs =
     let F = fits c.before.before.before.before.before in
-    (slot_low F, place_low F, c.before.before.before.before.before.requires.0, c.before.before.before.before.before.requires.1, above_low F)
+    (slot_low F, place_low F, c.requires.0, c.requires.1, above_low F)
 
-box-node-requires : tie.Need-box-node-requires
-box-node-requires c κs =
+box_node-d-requires : tie.Need-box_node-d-requires
+box_node-d-requires c κs =
     let S = c.before.before.before.before.before.before.before.before.before in
-    (slot_low (fits S), damage_few S.args.count c.before.before.before.place-node.result (fits S) S.requires.4.2 c.before.before.before.place-node.ensures.0, S.requires.3)
+    (slot_low (fits S), damage_few S.args.count c.place_node-w.result (fits S) S.requires.4.2 c.place_node-w.ensures.0, S.requires.3)
 
-mul-t39 : tie.Need-overflow-mul-t39
-mul-t39 c = omega (arith, slot_low (fits c.before.before.before.before.before.before.before.before.before.before.before.before))
+offset_bounds-slots_generation-x : tie.Need-offset_bounds-slots_generation-x
+offset_bounds-slots_generation-x c = omega (arith, slot_low (fits c.before.before.before.before.before.before.before.before.before.before.before.before))
 
-element-copy-out-t42 : tie.Need-element-copy-out-t42
-element-copy-out-t42 c = omega (arith, slot_low (fits c.before.before.before.before.before.before.before.before.before.before.before.before))
+bounds-slots_generation-x : tie.Need-bounds-slots_generation-x
+bounds-slots_generation-x c = omega (arith, slot_low (fits c.before.before.before.before.before.before.before.before.before.before.before.before))
 
-rect-to-aabb-requires : tie.Need-rect-to-aabb-requires
-rect-to-aabb-requires c κs = search rules
+rect_to_aabb-b-requires : tie.Need-rect_to_aabb-b-requires
+rect_to_aabb-b-requires c κs = search rules
 
-enter-node-requires : tie.Need-enter-node-requires
-enter-node-requires c κs =
+enter_node-e-requires : tie.Need-enter_node-e-requires
+enter_node-e-requires c κs =
     let S = c.before.before.before.before.before.before.before.before.before.before.before.before.before.before.before.before.before.before.before.before.before.before.before.before.before in
     (slot_low (fits S), S.requires.2, (S.requires.4.0.index.backend, enters (fits S)))
 
-same_length : tie.Need-same-length
-same_length c = ap length c.before.before.before.before.before.before.before.before.before.before.before.before.before.before.before.before.box-node.ensures.1.1.1.1.0 ∙ laid_length _ _ _
+shape_of-room : tie.Need-shape_of-room
+shape_of-room c = ap length c.box_node-d.ensures.1.1.1.1.0 ∙ laid_length _ _ _
 
 returns : tie.Need-returns
 returns c =
     let S = c.before.before.before.before.before.before.before.before.before.before.before.before.before.before.before.before.before.before.before.before.before.before.before.before.before.before in
     let A = S.args in
-    let W = c.before.before.before.before.before.before.before.before.before.before.before.before.before.before.before.before.before.before.before.before.place-node.ensures in
-    let B = c.before.before.before.before.before.before.before.before.before.before.before.before.before.before.before.before.box-node.ensures in
-    let E = c.enter-node.ensures in
-    let w = c.before.before.before.before.before.before.before.before.before.before.before.before.before.before.before.before.before.before.before.before.place-node.result in
+    let W = c.place_node-w.ensures in
+    let B = c.box_node-d.ensures in
+    let E = c.enter_node-e.ensures in
+    let w = c.place_node-w.result in
     let few = damage_few A.count w (fits S) S.requires.4.2 W.0 in (
       (λ t ds. (
         tables_after (lend S t) A.at w _ _ _ _ _ _ _ _ _ W.0 W.1.0 W.1.1.0 W.1.1.1 B.0 B.1.0 B.1.1.0 B.1.1.1.0
-            (E.0 t.index.backend).0 (rw (← c.before.before.before.before.before.before.before.before.before.before.before.rect-to-aabb.ensures) (E.0 t.index.backend).1) ds,
+            (E.0 t.index.backend).0 (rw (← c.rect_to_aabb-b.ensures) (E.0 t.index.backend).1) ds,
         (λ en. (
           count_after (lend S t) A.at w W.0 A.count _ B.1.1.1.1.1 ds en,
           (λ room₀ er. room_after (lend S t) A.at w W.0 A.count A.room.now _ S.requires.3 few B.1.1.1.1.0 ds room₀ en er),
@@ -81,18 +81,18 @@ returns c =
       (E.1, ap length B.1.1.1.1.0 ∙ laid_length _ _ _),
     )
 
-pub rework-node-spec : {M : Type 1} → statement M
-rework-node-spec =
+pub rework_node_spec : {M : Type 1} → statement M
+rework_node_spec =
     tie.close
     (tie.spec
-    mul-node
-    element-copy-out-node
-    cast-x
-    place-node-requires
-    box-node-requires
-    mul-t39
-    element-copy-out-t42
-    rect-to-aabb-requires
-    enter-node-requires
-    same_length
+    offset_bounds-order-at
+    bounds-order-at
+    overflow_cast-x
+    place_node-w-requires
+    box_node-d-requires
+    offset_bounds-slots_generation-x
+    bounds-slots_generation-x
+    rect_to_aabb-b-requires
+    enter_node-e-requires
+    shape_of-room
     returns)

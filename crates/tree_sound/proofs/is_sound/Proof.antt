@@ -16,21 +16,21 @@ free_long : (c : tie.Start) → length c.args.t1.slots.free ≡ 256
 free_long c = search rules
 
 mark_long : (c : tie.Start) → length c.args.t1.index.mark ≡ 512
-mark_long c = length_unmapped ℕ c.args.t1.index.mark 512 c.well-formed.0.1.1.1.1.1.1.1.1.1.0.1.1.1.0.1.0.1
+mark_long c = length_unmapped ℕ c.args.t1.index.mark 512 c.well_formed.0.1.1.1.1.1.1.1.1.1.0.1.1.1.0.1.0.1
 
 entries_free_long : (c : tie.Start) → length c.args.t1.index.free ≡ 512
-entries_free_long c = length_unmapped ℕ c.args.t1.index.free 512 c.well-formed.0.1.1.1.1.1.1.1.1.1.0.1.1.1.1.1.1.1.1.1.0.1.0.1
+entries_free_long c = length_unmapped ℕ c.args.t1.index.free 512 c.well_formed.0.1.1.1.1.1.1.1.1.1.0.1.1.1.1.1.1.1.1.1.0.1.0.1
 
 dirty_long : (c : tie.Start) → length c.args.t1.index.dirty ≡ 512
-dirty_long c = length_unmapped ℕ c.args.t1.index.dirty 512 c.well-formed.0.1.1.1.1.1.1.1.1.1.0.1.1.1.1.1.1.1.1.1.1.1.0.1.0.1
+dirty_long c = length_unmapped ℕ c.args.t1.index.dirty 512 c.well_formed.0.1.1.1.1.1.1.1.1.1.0.1.1.1.1.1.1.1.1.1.1.1.0.1.0.1
 
-sound-tables-requires : tie.Need-sound-tables-requires
-sound-tables-requires c κs =
-    let s = c.before.before.before.before.before.before.before.before.before.before.before.before.before.before.before.before.before.before.before.before.before.before.before.before in
+sound_tables-requires : tie.Need-sound_tables-requires
+sound_tables-requires c κs =
+    let s = c in
     (order_long s, depth_long s, free_long s, mark_long s, entries_free_long s, dirty_long s)
 
 returns : tie.Need-returns
-returns c = let s = c.before.before.before.before.before.before.before.before.before.before.before.before.before.before.before.before.before.before.before.before.before.before.before.before.before in c.sound-tables.ensures s.args.t1
+returns c = let s = c in c.sound_tables.ensures s.args.t1
 
-pub is-sound-spec : {M : Type 1} → statement M
-is-sound-spec = tie.close (tie.spec sound-tables-requires returns)
+pub is_sound_spec : {M : Type 1} → statement M
+is_sound_spec = tie.close (tie.spec sound_tables-requires returns)

@@ -31,12 +31,12 @@ tree s t =
     (lent.index A.index_generation.now A.mark.now A.payload.now t.index.aabb t.index.kept t.index.prev A.index-used
     A.index_free.now A.index-frees A.dirty.now A.queued t.index.backend)
 
-module _ (c : tie.Else1) where
+module _ (c : tie.Else-not-live) where
   abbrev start : tie.Start
   start = c.before.before
 
   passed : c.before.count-slots.result.ok ≡ true
-  passed = not-false c.before.count-slots.result.ok c.if1.false
+  passed = c.if1.false
 
   right : let A = start.args in slots_right A.order.now A.links-count A.slots_free.now A.slots-frees A.slots_used ≡ true
   right = sym c.before.count-slots.ensures.0 ∙ passed
@@ -54,19 +54,19 @@ module _ (c : tie.Else1) where
   listed : (start.args.links-count ≤ 256) × (length start.args.order.now ≡ 256) × Low start.args.order.now start.args.links-count
   listed = (fit, start.pre.0, low)
 
-times_long : (c : tie.After-count-slots) → length c.count-slots.result.times ≡ 256
+times_long : (c : tie.After-count_slots-live) → length c.count_slots-live.result.times ≡ 256
 times_long c = search rules
 
 -- past both tests
-abbrev slots-passed : tie.Else2 → tie.Else1
-slots-passed c = c.before.before.before
+abbrev slots_passed : tie.Else-not-index → tie.Else-not-live
+slots_passed c = c.before.before.before
 
-module _ (c : tie.Else2) where
+module _ (c : tie.Else-not-index) where
   abbrev from : tie.Start
-  from = start (slots-passed c)
+  from = start (slots_passed c)
 
   sound : let A = from.args in sound_of A.mark.now A.index_free.now A.index-frees A.dirty.now A.queued A.index-used ≡ true
-  sound = sym c.before.is-sound.ensures ∙ not-false c.before.is-sound.result c.if2.false
+  sound = sym c.before.is-sound.ensures ∙ c.if2.false
 
   fits : from.args.index-used ≤ 512
   fits =
@@ -74,51 +74,51 @@ module _ (c : tie.Else2) where
       sound_of_used A.mark.now A.index_free.now A.index-frees A.dirty.now A.queued A.index-used from.pre.3 from.pre.4
       from.pre.5 sound
 
-count-slots-requires : tie.Need-count-slots-requires
-count-slots-requires c κs = (c.requires.0, c.requires.2)
+count_slots-live-requires : tie.Need-count_slots-live-requires
+count_slots-live-requires c κs = (c.requires.0, c.requires.2)
+
+returns-then-not-live : tie.Need-returns-then-not-live
+returns-then-not-live c =
+    let k = c.before in
+    λ t. sym (unsound_slots (tree k.before t) (sym k.count_slots-live.ensures.0 ∙ c.if-not-live.true))
+
+depths_ok-shape-requires : tie.Need-depths_ok-shape-requires
+depths_ok-shape-requires c κs = (fit c, c.requires.1)
+
+is_sound-index-requires : tie.Need-is_sound-index-requires
+is_sound-index-requires c κs = (c.requires.4, c.requires.5)
+
+returns-then-not-index : tie.Need-returns-then-not-index
+returns-then-not-index c =
+    let i = c.before in
+    λ t. sym (unsound_index (tree i.before.before.before.before t) (sym i.is_sound-index.ensures ∙ c.if-not-index.true))
+
+values_right-values-requires : tie.Need-values_right-values-requires
+values_right-values-requires c κs = listed (slots_passed c)
+
+marks_right-marks-requires : tie.Need-marks_right-marks-requires
+marks_right-marks-requires c κs = listed (slots_passed c.before)
+
+owners_right-owners-requires : tie.Need-owners_right-owners-requires
+owners_right-owners-requires c κs = listed (slots_passed c.before.before)
+
+new_right-new-requires : tie.Need-new_right-new-requires
+new_right-new-requires c κs = listed (slots_passed c.before.before.before)
+
+entries_right-entries-requires : tie.Need-entries_right-entries-requires
+entries_right-entries-requires c κs = let e = c.before.before.before.before.before.before in (times_long (slots_passed e).before, fits e)
+
+count_removed-removed-requires : tie.Need-count_removed-removed-requires
+count_removed-removed-requires c κs = fits c.before.before.before.before.before.before.before
+
+count_committed-owning-requires : tie.Need-count_committed-owning-requires
+count_committed-owning-requires c κs = listed (slots_passed c.before.before.before.before.before.before.before.before)
+
+overflow_add-few : tie.Need-overflow_add-few
+overflow_add-few c = omega (arith, c.count_committed-owning.ensures.0, c.count_removed-removed.ensures.0)
 
 returns : tie.Need-returns
 returns c =
-    let k = c.before in
-    λ t. sym (unsound_slots (tree k.before t) (sym k.count-slots.ensures.0 ∙ not-true k.count-slots.result.ok c.if1.true))
-
-depths-ok-requires : tie.Need-depths-ok-requires
-depths-ok-requires c κs = (fit c, c.before.before.requires.1)
-
-is-sound-requires : tie.Need-is-sound-requires
-is-sound-requires c κs = (c.before.before.before.requires.4, c.before.before.before.requires.5)
-
-returns-2 : tie.Need-returns-2
-returns-2 c =
-    let i = c.before in
-    λ t. sym (unsound_index (tree i.before.before.before.before t) (sym i.is-sound.ensures ∙ not-true i.is-sound.result c.if2.true))
-
-values-right-requires : tie.Need-values-right-requires
-values-right-requires c κs = listed (slots-passed c)
-
-marks-right-requires : tie.Need-marks-right-requires
-marks-right-requires c κs = listed (slots-passed c.before)
-
-owners-right-requires : tie.Need-owners-right-requires
-owners-right-requires c κs = listed (slots-passed c.before.before)
-
-new-right-requires : tie.Need-new-right-requires
-new-right-requires c κs = listed (slots-passed c.before.before.before)
-
-entries-right-requires : tie.Need-entries-right-requires
-entries-right-requires c κs = let e = c.before.before.before.before.before.before in (times_long (slots-passed e).before, fits e)
-
-count-removed-requires : tie.Need-count-removed-requires
-count-removed-requires c κs = fits c.before.before.before.before.before.before.before
-
-count-committed-requires : tie.Need-count-committed-requires
-count-committed-requires c κs = listed (slots-passed c.before.before.before.before.before.before.before.before)
-
-add-few : tie.Need-overflow-add-few
-add-few c = omega (arith, c.count-committed.ensures.0, c.before.count-removed.ensures.0)
-
-returns-3 : tie.Need-returns-3
-returns-3 c =
     let removed = c.before in
     let entries = removed.before in
     let new = entries.before.before.before in
@@ -127,33 +127,33 @@ returns-3 c =
     let values = marks.before in
     let e = values.before in
     let s = from e in
-    let k = (slots-passed e).before in
-    λ t. answered (tree s t) s.pre.0 (right (slots-passed e)) k.count-slots.result.times (k.count-slots.ensures.1 (passed (slots-passed e)))
+    let k = (slots_passed e).before in
+    λ t. answered (tree s t) s.pre.0 (right (slots_passed e)) k.count-slots.result.times (k.count-slots.ensures.1 (passed (slots_passed e)))
     s.pre.3 s.pre.4 s.pre.5 (sound e)
-    e.before.before.depths-ok.ensures
-    values.values-right.ensures
-    marks.marks-right.ensures
-    owners.owners-right.ensures
-    new.new-right.ensures
-    entries.entries-right.ensures
-    removed.count-removed.ensures.1
-    c.count-committed.ensures.1
+    e.depths_ok-shape.ensures
+    values.values_right-values.ensures
+    marks.marks_right-marks.ensures
+    owners.owners_right-owners.ensures
+    new.new_right-new.ensures
+    entries.entries_right-entries.ensures
+    removed.count_removed-removed.ensures.1
+    c.count_committed-owning.ensures.1
 
-pub sound-tables-spec : {M : Type 1} → statement M
-sound-tables-spec =
+pub sound_tables_spec : {M : Type 1} → statement M
+sound_tables_spec =
     tie.close
     (tie.spec
-    count-slots-requires
-    returns
-    depths-ok-requires
-    is-sound-requires
-    returns-2
-    values-right-requires
-    marks-right-requires
-    owners-right-requires
-    new-right-requires
-    entries-right-requires
-    count-removed-requires
-    count-committed-requires
-    add-few
-    returns-3)
+    count_slots-live-requires
+    returns-then-not-live
+    depths_ok-shape-requires
+    is_sound-index-requires
+    returns-then-not-index
+    values_right-values-requires
+    marks_right-marks-requires
+    owners_right-owners-requires
+    new_right-new-requires
+    entries_right-entries-requires
+    count_removed-removed-requires
+    count_committed-owning-requires
+    overflow_add-few
+    returns)

@@ -3,22 +3,22 @@ use borrow.Author.Rules.{rules}
 use Rattle.tree_state.proofs.check.Statement.{statement}
 use Rattle.tree_state.proofs.check.Tie as tie
 
-enum_told : tie.Need-enum-told
-enum_told c = search rules
+enum_told-1 : tie.Need-enum_told-1
+enum_told-1 c = search rules
 
-check-next-requires : tie.Need-check-next-requires
-check-next-requires c κs = search rules
+check_next-requires : tie.Need-check_next-requires
+check_next-requires c κs = search rules
 
-enum-known-v : tie.Need-enum-known-v
-enum-known-v c = search rules
+enum_known-v : tie.Need-enum_known-v
+enum_known-v c = search rules
 
-returns : tie.Need-returns
+returns-in-Accepted : tie.Need-returns-in-Accepted
 unfolding checked
-returns c = rw (c.before.enum_told.given.1, c.check-next.ensures)
+returns-in-Accepted c = rw (c.in-Accepted.is, c.check_next.ensures)
 
-returns-2 : tie.Need-returns-2
+returns-in-Refused : tie.Need-returns-in-Refused
 unfolding checked
-returns-2 c = rw c.before.v.given.1
+returns-in-Refused c = rw c.in-Refused.is
 
-pub check-spec : {M : Type 1} → statement M
-check-spec = tie.close (tie.spec enum_told check-next-requires enum-known-v returns returns-2)
+pub check_spec : {M : Type 1} → statement M
+check_spec = tie.close (tie.spec enum_told-1 check_next-requires enum_known-v returns-in-Accepted returns-in-Refused)

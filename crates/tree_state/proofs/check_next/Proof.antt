@@ -2,13 +2,13 @@ use Rattle.tree_state.specs.Tree.{checked_next}
 use Rattle.tree_state.proofs.check_next.Statement.{statement}
 use Rattle.tree_state.proofs.check_next.Tie as tie
 
+returns-then-holds : tie.Need-returns-then-holds
+unfolding checked_next
+returns-then-holds c = rw c.if-holds.true
+
 returns : tie.Need-returns
 unfolding checked_next
-returns c = rw c.if1.true
+returns c = rw c.if-holds.false
 
-returns-2 : tie.Need-returns-2
-unfolding checked_next
-returns-2 c = rw c.if1.false
-
-pub check-next-spec : {M : Type 1} → statement M
-check-next-spec = tie.close (tie.spec returns returns-2)
+pub check_next_spec : {M : Type 1} → statement M
+check_next_spec = tie.close (tie.spec returns-then-holds returns)

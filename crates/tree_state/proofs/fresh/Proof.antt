@@ -4,12 +4,12 @@ use borrow.Author.Rules.{rules}
 use Rattle.tree_state.proofs.fresh.Statement.{statement}
 use Rattle.tree_state.proofs.fresh.Tie as tie
 
-fresh-requires : tie.Need-fresh-requires
-fresh-requires c κs = search rules
+fresh-index-requires : tie.Need-fresh-index-requires
+fresh-index-requires c κs = search rules
 
 returns : tie.Need-returns
 unfolding fresh_tree of_bits of_fields odd
-returns c = rw c.fresh.ensures
+returns c = rw c.fresh-index.ensures
 
-pub fresh-spec : {M : Type 1} → statement M
-fresh-spec = tie.close (tie.spec fresh-requires returns)
+pub fresh_spec : {M : Type 1} → statement M
+fresh_spec = tie.close (tie.spec fresh-index-requires returns)

@@ -15,125 +15,125 @@ use Rattle.tree_taps.proofs.hit_test_point.Statement.{statement}
 use Rattle.tree_taps.proofs.hit_test_point.Tie as tie
 
 -- before the tables are lent to the verdict
-abbrev start : tie.After-asked-verdict → tie.Start
-start c = c.before.before.before.before.before.before.before.before.before.before.before.before.before.before.before.before.before.before.before.before.before.before.before.before.before.before.before
+abbrev start : tie.After-asked_verdict-fresh → tie.Start
+start c = c
 
-asked-verdict-requires : tie.Need-asked-verdict-requires
-asked-verdict-requires c κs =
-    let s = c.before.before.before.before.before.before.before.before.before.before.before.before.before.before.before.before.before.before.before.before.before.before.before.before.before.before in
-    let l = sized s.args.t1 s.well-formed.0 in
+asked_verdict-fresh-requires : tie.Need-asked_verdict-fresh-requires
+asked_verdict-fresh-requires c κs =
+    let s = c in
+    let l = sized s.args.t1 s.well_formed.0 in
     (l.order, l.depth, l.free, l.mark, l.entries_free, l.dirty)
 
-room-verdict-requires : tie.Need-room-verdict-requires
-room-verdict-requires c κs = search rules
+room_verdict-v-requires : tie.Need-room_verdict-v-requires
+room_verdict-v-requires c κs = search rules
 
 -- the verdict, on the tree itself
-judged : (c : tie.After-room-verdict) → let A = (start c.before).args in c.room-verdict.result ≡ request_verdict A.t1 A.filter.required_flags (length A.room.now)
+judged : (c : tie.After-room_verdict-v) → let A = (start c.before).args in c.room_verdict-v.result ≡ request_verdict A.t1 A.filter.required_flags (length A.room.now)
 judged c =
     let A = (start c.before).args in
-    c.room-verdict.ensures ∙ ap (λ (v : Verdict). room_verdict v (length A.room.now)) (c.before.asked-verdict.ensures A.t1)
+    c.room_verdict-v.ensures ∙ ap (λ (v : Verdict). room_verdict v (length A.room.now)) (c.asked_verdict-fresh.ensures A.t1)
 
-enum-known-v : tie.Need-enum-known-v
-enum-known-v c = search rules
+enum_known-v : tie.Need-enum_known-v
+enum_known-v c = search rules
 
-returns : tie.Need-returns
-returns c =
-    let w = c.before.before.before in
+returns-in-Refused : tie.Need-returns-in-Refused
+returns-in-Refused c =
+    let w = c.before in
     let A = (start w.before).args in
     let asked = A.filter.required_flags in
-    refused (request_verdict A.t1 asked (length A.room.now)) A.t1 (hit_node A.t1 asked A.point) A.room.now _ (sym (judged w) ∙ c.before.v.given.1)
+    refused (request_verdict A.t1 asked (length A.room.now)) A.t1 (hit_node A.t1 asked A.point) A.room.now _ (sym (judged w) ∙ c.in-Refused.is)
 
-enum_told : tie.Need-enum-told
-enum_told c = search rules
+enum_told-1 : tie.Need-enum_told-1
+enum_told-1 c = search rules
 
-yes : (c : tie.After-enum-told) → let A = (start c.before.before.before).args in request_verdict A.t1 A.filter.required_flags (length A.room.now) ≡ is.Accepted
-yes c = sym (judged c.before.before) ∙ c.enum_told.given.1
+yes : (c : tie.In_default) → let A = (start c.before.before).args in request_verdict A.t1 A.filter.required_flags (length A.room.now) ≡ is.Accepted
+yes c = sym (judged c.before) ∙ c.in_default.is
 
-took : (c : tie.After-enum-told) → let A = (start c.before.before.before).args in Accepted A.t1 (length A.room.now)
+took : (c : tie.In_default) → let A = (start c.before.before).args in Accepted A.t1 (length A.room.now)
 took c =
-    let s = start c.before.before.before in
+    let s = start c.before.before in
     let A = s.args in
     accepted A.t1 (sized A.t1 s.good.0) A.filter.required_flags (length A.room.now) (yes c)
 
 -- before the tables are lent to the search
-abbrev from : tie.After-strongest → tie.After-enum-told
-from c = c.before.before.before.before.before.before.before.before.before.before.before.before.before.before.before.before
+abbrev from : tie.After-strongest-best → tie.In_default
+from c = c
 
-strongest-requires : tie.Need-strongest-requires
-strongest-requires c κs =
-    let e = c.before.before.before.before.before.before.before.before.before.before.before.before.before.before.before in
+strongest-best-requires : tie.Need-strongest-best-requires
+strongest-best-requires c κs =
+    let e = c in
     let s = start e.before.before.before in
     tappable s.args.t1 (sized s.args.t1 s.good.0) (took e).whole (took e).no_need
 
 -- the answer, on the tree itself
-told : (c : tie.After-strongest) → let A = (start (from c).before.before.before).args in best_of c.strongest.result ≡ hit_node A.t1 A.filter.required_flags A.point
-told c = c.strongest.ensures.0 (start (from c).before.before.before).args.t1
+told : (c : tie.After-strongest-best) → let A = (start (from c).before.before.before).args in best_of c.strongest-best.result ≡ hit_node A.t1 A.filter.required_flags A.point
+told c = c.strongest-best.ensures.0 (start (from c).before.before.before).args.t1
 
-returns-2 : tie.Need-returns-2
-returns-2 c =
+returns-then-best-eq256 : tie.Need-returns-then-best-eq256
+returns-then-best-eq256 c =
     let e = from c.before in
     let A = (start e.before.before.before).args in
     let asked = A.filter.required_flags in
-    let n = sym (ap best_of c.if1.true) ∙ told c.before in
+    let n = sym (ap best_of c.if-best-eq256.true) ∙ told c.before in
     nothing (request_verdict A.t1 asked (length A.room.now)) A.t1 (hit_node A.t1 asked A.point) A.room.now (yes e) (sym n ∙ best_none A.t1)
 
 -- the best is shown
-shown : (c : tie.Else1) → let A = (start (from c.before).before.before.before).args in Shown A.t1.links.order A.t1.links.count c.before.strongest.result
-shown c = c.before.strongest.ensures.1 c.if1.false
+shown : (c : tie.Else-best-eq256) → let A = (start (from c.before).before.before.before).args in Shown A.t1.links.order A.t1.links.count c.strongest-best.result
+shown c = c.strongest-best.ensures.1 c.if-best-eq256.false
 
-cast-x : tie.Need-overflow-cast-x
-cast-x c = omega (arith, (shown c).0)
+overflow_cast-x : tie.Need-overflow_cast-x
+overflow_cast-x c = omega (arith, (shown c).0)
 
-position-requires : tie.Need-position-requires
-position-requires c κs =
+position-at-requires : tie.Need-position-at-requires
+position-at-requires c κs =
     let e = from c.before.before.before in
     let s = start e.before.before.before in
     let p = sound_places s.args.t1 (sized s.args.t1 s.good.0) (took e).whole.test in
     (p.0, p.1)
 
-id-of-requires : tie.Need-id-of-requires
-id-of-requires c κs = (shown c.before.before.before.before.before).0
+id_of-own-requires : tie.Need-id_of-own-requires
+id_of-own-requires c κs = (shown c.before.before.before.before.before).0
 
-write-path-requires : tie.Need-write-path-requires
-write-path-requires c κs =
+write_path-deep-requires : tie.Need-write_path-deep-requires
+write_path-deep-requires c κs =
     let y = c.before.before.before.before.before.before.before.before.before.before.before in
     let e = from y.before in
     let s = start e.before.before.before in
     let z = sized s.args.t1 s.good.0 in
     let p = sound_places s.args.t1 z (took e).whole.test in
-    let at = c.before.before.before.before.before.before.before.before.position.ensures.1 in
+    let at = c.position-at.ensures.1 in
     (omega (arith, at, (shown y).1), p.0, omega (arith, (shown y).0), p.1, z.depth, (took e).whole.depths, p.2, (took e).long)
 
-same_length : tie.Need-same-length
-same_length c = search rules
+shape_of-room : tie.Need-shape_of-room
+shape_of-room c = search rules
 
-returns-3 : tie.Need-returns-3
-returns-3 c =
+returns : tie.Need-returns
+returns c =
     let y = c.before.before.before.before.before.before.before.before.before.before.before.before.before.before in
     let e = from y.before in
     let A = (start e.before.before.before).args in
     let asked = A.filter.required_flags in
-    let S = y.before.strongest in
-    let W = c.before.before.write-path in
+    let S = y.strongest-best in
+    let W = c.write_path-deep in
     let x = S.result in
-    let at = c.before.before.before.before.before.before.before.before.before.before.before.position.ensures.1 in
+    let at = c.position-at.ensures.1 in
     let E = rw (at, ← path_at_lem A.t1 x) at W.ensures in
-    hit (request_verdict A.t1 asked (length A.room.now)) A.t1 (hit_node A.t1 asked A.point) A.room.now x _ _ _ (yes e) (sym (told y.before) ∙ best_some A.t1 x y.if1.false) c.before.before.before.before.before.before.before.before.id-of.ensures E.0 E.1
+    hit (request_verdict A.t1 asked (length A.room.now)) A.t1 (hit_node A.t1 asked A.point) A.room.now x _ _ _ (yes e) (sym (told y.before) ∙ best_some A.t1 x y.if1.false) c.id_of-own.ensures E.0 E.1
 
-pub hit-test-point-spec : {M : Type 1} → statement M
-hit-test-point-spec =
+pub hit_test_point_spec : {M : Type 1} → statement M
+hit_test_point_spec =
     tie.close
     (tie.spec
-    asked-verdict-requires
-    room-verdict-requires
-    enum-known-v
-    returns
-    enum_told
-    strongest-requires
-    returns-2
-    cast-x
-    position-requires
-    id-of-requires
-    write-path-requires
-    same_length
-    returns-3)
+    asked_verdict-fresh-requires
+    room_verdict-v-requires
+    enum_known-v
+    returns-in-Refused
+    enum_told-1
+    strongest-best-requires
+    returns-then-best-eq256
+    overflow_cast-x
+    position-at-requires
+    id_of-own-requires
+    write_path-deep-requires
+    shape_of-room
+    returns)

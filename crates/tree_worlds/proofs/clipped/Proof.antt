@@ -3,22 +3,22 @@ use borrow.Author.Rules.{rules}
 use Rattle.tree_worlds.proofs.clipped.Statement.{statement}
 use Rattle.tree_worlds.proofs.clipped.Tie as tie
 
-enum_told : tie.Need-enum-told
-enum_told c = search rules
+enum_told-1 : tie.Need-enum_told-1
+enum_told-1 c = search rules
 
-enum-known-clip : tie.Need-enum-known-clip
-enum-known-clip c = search rules
+enum_known-clip : tie.Need-enum_known-clip
+enum_known-clip c = search rules
 
 intersect-requires : tie.Need-intersect-requires
 intersect-requires c κs = search rules
 
-returns : tie.Need-returns
+returns-in-None : tie.Need-returns-in-None
 unfolding clipped
-returns c = rw c.enum_told.given.1
+returns-in-None c = rw c.in-None.is
 
-returns-2 : tie.Need-returns-2
+returns-in-Some : tie.Need-returns-in-Some
 unfolding clipped
-returns-2 c = rw (c.before.before.clip.given.1, c.intersect.ensures)
+returns-in-Some c = rw (c.in-Some.is, c.intersect.ensures)
 
-pub clipped-spec : {M : Type 1} → statement M
-clipped-spec = tie.close (tie.spec enum_told enum-known-clip intersect-requires returns returns-2)
+pub clipped_spec : {M : Type 1} → statement M
+clipped_spec = tie.close (tie.spec enum_told-1 enum_known-clip intersect-requires returns-in-None returns-in-Some)

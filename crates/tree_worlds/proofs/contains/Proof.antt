@@ -3,23 +3,23 @@ use borrow.Author.Rules.{rules}
 use Rattle.tree_worlds.proofs.contains.Statement.{statement}
 use Rattle.tree_worlds.proofs.contains.Tie as tie
 
-map-point-requires : tie.Need-map-point-requires
-map-point-requires c κs = search rules
+map_point-local_point-requires : tie.Need-map_point-local_point-requires
+map_point-local_point-requires c κs = search rules
 
-add-requires : tie.Need-add-requires
-add-requires c κs = search rules
+add-region-requires : tie.Need-add-region-requires
+add-region-requires c κs = search rules
 
-contains-requires : tie.Need-contains-requires
-contains-requires c κs = search rules
+contains-in_bounds-requires : tie.Need-contains-in_bounds-requires
+contains-in_bounds-requires c κs = search rules
 
-contains-requires-2 : tie.Need-contains-requires-2
-contains-requires-2 c κs = search rules
+contains-in_clip-requires : tie.Need-contains-in_clip-requires
+contains-in_clip-requires c κs = search rules
 
 returns : tie.Need-returns
 unfolding reached
-returns c = rw (c.contains2.ensures, c.before.contains.ensures, c.before.before.add.ensures, c.before.before.before.map-point.ensures)
+returns c = rw (c.contains-in_clip.ensures, c.contains-in_bounds.ensures, c.add-region.ensures, c.map_point-local_point.ensures)
 
-pub contains-spec : {M : Type 1} → statement M
-contains-spec =
+pub contains_spec : {M : Type 1} → statement M
+contains_spec =
     tie.close
-    (tie.spec map-point-requires add-requires contains-requires contains-requires-2 returns)
+    (tie.spec map_point-local_point-requires add-region-requires contains-in_bounds-requires contains-in_clip-requires returns)

@@ -3,23 +3,23 @@ use borrow.Author.Rules.{rules}
 use Rattle.tree_worlds.proofs.image.Statement.{statement}
 use Rattle.tree_worlds.proofs.image.Tie as tie
 
-enum_told : tie.Need-enum-told
-enum_told c = search rules
+enum_told-1 : tie.Need-enum_told-1
+enum_told-1 c = search rules
 
-enum-known-r : tie.Need-enum-known-r
-enum-known-r c = search rules
+enum_known-r : tie.Need-enum_known-r
+enum_known-r c = search rules
 
-transform-rect-bbox-requires : tie.Need-transform-rect-bbox-requires
-transform-rect-bbox-requires c κs = search rules
+transform_rect_bbox-requires : tie.Need-transform_rect_bbox-requires
+transform_rect_bbox-requires c κs = search rules
 
-returns : tie.Need-returns
+returns-in-None : tie.Need-returns-in-None
 unfolding image
-returns c = rw c.enum_told.given.1
+returns-in-None c = rw c.in-None.is
 
-returns-2 : tie.Need-returns-2
+returns-in-Some : tie.Need-returns-in-Some
 unfolding image
-returns-2 c = rw (c.before.before.r.given.1, c.transform-rect-bbox.ensures)
+returns-in-Some c = rw (c.in-Some.is, c.transform_rect_bbox.ensures)
 
-pub image-spec : {M : Type 1} → statement M
-image-spec =
-    tie.close (tie.spec enum_told enum-known-r transform-rect-bbox-requires returns returns-2)
+pub image_spec : {M : Type 1} → statement M
+image_spec =
+    tie.close (tie.spec enum_told-1 enum_known-r transform_rect_bbox-requires returns-in-None returns-in-Some)

@@ -3,22 +3,22 @@ use borrow.Author.Rules.{rules}
 use Rattle.tree_worlds.proofs.meet.Statement.{statement}
 use Rattle.tree_worlds.proofs.meet.Tie as tie
 
-enum_told : tie.Need-enum-told
-enum_told c = search rules
+enum_told-1 : tie.Need-enum_told-1
+enum_told-1 c = search rules
 
-enum-known-own : tie.Need-enum-known-own
-enum-known-own c = search rules
+enum_known-own : tie.Need-enum_known-own
+enum_known-own c = search rules
 
-meet-own-requires : tie.Need-meet-own-requires
-meet-own-requires c κs = search rules
+meet_own-requires : tie.Need-meet_own-requires
+meet_own-requires c κs = search rules
 
-returns : tie.Need-returns
+returns-in-None : tie.Need-returns-in-None
 unfolding meet
-returns c = rw c.enum_told.given.1
+returns-in-None c = rw c.in-None.is
 
-returns-2 : tie.Need-returns-2
+returns-in-Some : tie.Need-returns-in-Some
 unfolding meet
-returns-2 c = rw (c.before.before.own.given.1, c.meet-own.ensures)
+returns-in-Some c = rw (c.in-Some.is, c.meet_own.ensures)
 
-pub meet-spec : {M : Type 1} → statement M
-meet-spec = tie.close (tie.spec enum_told enum-known-own meet-own-requires returns returns-2)
+pub meet_spec : {M : Type 1} → statement M
+meet_spec = tie.close (tie.spec enum_told-1 enum_known-own meet_own-requires returns-in-None returns-in-Some)

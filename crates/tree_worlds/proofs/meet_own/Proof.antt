@@ -3,23 +3,23 @@ use borrow.Author.Rules.{rules}
 use Rattle.tree_worlds.proofs.meet_own.Statement.{statement}
 use Rattle.tree_worlds.proofs.meet_own.Tie as tie
 
-enum_told : tie.Need-enum-told
-enum_told c = search rules
+enum_told-1 : tie.Need-enum_told-1
+enum_told-1 c = search rules
 
-enum-known-parent : tie.Need-enum-known-parent
-enum-known-parent c = search rules
+enum_known-parent : tie.Need-enum_known-parent
+enum_known-parent c = search rules
 
 intersect-requires : tie.Need-intersect-requires
 intersect-requires c κs = search rules
 
-returns : tie.Need-returns
+returns-in-None : tie.Need-returns-in-None
 unfolding meet_own
-returns c = rw c.enum_told.given.1
+returns-in-None c = rw c.in-None.is
 
-returns-2 : tie.Need-returns-2
+returns-in-Some : tie.Need-returns-in-Some
 unfolding meet_own
-returns-2 c = rw (c.before.before.parent.given.1, c.intersect.ensures)
+returns-in-Some c = rw (c.in-Some.is, c.intersect.ensures)
 
-pub meet-own-spec : {M : Type 1} → statement M
-meet-own-spec =
-    tie.close (tie.spec enum_told enum-known-parent intersect-requires returns returns-2)
+pub meet_own_spec : {M : Type 1} → statement M
+meet_own_spec =
+    tie.close (tie.spec enum_told-1 enum_known-parent intersect-requires returns-in-None returns-in-Some)

@@ -38,10 +38,10 @@ returns c =
     let c6 = c5.before.before.before in
     let c7 = c6.before.before.before in
     let c8 = c7.before.before.before in
-    rw (c1.max4.ensures, c2.max3.ensures, c3.min4.ensures, c4.min3.ensures, c5.max2.ensures, c6.max.ensures, c7.min2.ensures, c8.min.ensures)
+    rw (c1.max-4.ensures, c2.max-3.ensures, c3.min-4.ensures, c4.min-3.ensures, c5.max-2.ensures, c6.max.ensures, c7.min-2.ensures, c8.min.ensures)
 
-pub transform-rect-bbox-spec : {M : Type 1} → statement M
-transform-rect-bbox-spec =
+pub transform_rect_bbox_spec : {M : Type 1} → statement M
+transform_rect_bbox_spec =
     tie.close
     (tie.spec
     min-requires

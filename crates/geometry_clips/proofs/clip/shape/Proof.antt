@@ -3,16 +3,16 @@ use Rattle.geometry_clips.specs.Clips.{shaped}
 use Rattle.geometry_clips.proofs.clip.shape.Statement.{statement}
 use Rattle.geometry_clips.proofs.clip.shape.Tie as tie
 
-is-zero-requires : tie.Need-is-zero-requires
-is-zero-requires c κs = search rules
+is_zero-requires : tie.Need-is_zero-requires
+is_zero-requires c κs = search rules
+
+returns-then-is_zero : tie.Need-returns-then-is_zero
+unfolding shaped
+returns-then-is_zero c = rw (shaped, ← c.is_zero.ensures, c.if-is_zero.true)
 
 returns : tie.Need-returns
 unfolding shaped
-returns c = rw (shaped, ← c.before.is_zero.ensures, c.if1.true)
+returns c = rw (shaped, ← c.is_zero.ensures, c.if-is_zero.false)
 
-returns-2 : tie.Need-returns-2
-unfolding shaped
-returns-2 c = rw (shaped, ← c.before.is_zero.ensures, c.if1.false)
-
-pub shape-spec : {M : Type 1} → statement M
-shape-spec = tie.close (tie.spec is-zero-requires returns returns-2)
+pub shape_spec : {M : Type 1} → statement M
+shape_spec = tie.close (tie.spec is_zero-requires returns-then-is_zero returns)

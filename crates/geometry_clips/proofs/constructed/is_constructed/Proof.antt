@@ -3,62 +3,62 @@ use Rattle.geometry_clips.specs.constructed.Constructed.{as_constructed}
 use Rattle.geometry_clips.proofs.constructed.is_constructed.Statement.{statement}
 use Rattle.geometry_clips.proofs.constructed.is_constructed.Tie as tie
 
-enum_told : tie.Need-enum-told
-enum_told c = search rules
+enum_told-1 : tie.Need-enum_told-1
+enum_told-1 c = search rules
 
-enum-known-clip : tie.Need-enum-known-clip
-enum-known-clip c = search rules
+enum_known-clip : tie.Need-enum_known-clip
+enum_known-clip c = search rules
 
 abs-requires : tie.Need-abs-requires
 abs-requires c κs = search rules
 
-same-rect-requires : tie.Need-same-rect-requires
-same-rect-requires c κs = search rules
+same_rect-requires : tie.Need-same_rect-requires
+same_rect-requires c κs = search rules
 
-enum-known-clip-2 : tie.Need-enum-known-clip-2
-enum-known-clip-2 c = search rules
+enum_known-clip-in-Rounded-1 : tie.Need-enum_known-clip-in-Rounded-1
+enum_known-clip-in-Rounded-1 c = search rules
 
-abs-requires-2 : tie.Need-abs-requires-2
-abs-requires-2 c κs = search rules
+abs-requires-in-Rounded : tie.Need-abs-requires-in-Rounded
+abs-requires-in-Rounded c κs = search rules
 
-same-rect-requires-2 : tie.Need-same-rect-requires-2
-same-rect-requires-2 c κs = search rules
+same_rect-requires-in-Rounded : tie.Need-same_rect-requires-in-Rounded
+same_rect-requires-in-Rounded c κs = search rules
 
 fit-requires : tie.Need-fit-requires
 fit-requires c κs = search rules
 
-same-radii-requires : tie.Need-same-radii-requires
-same-radii-requires c κs = search rules
+same_radii-requires : tie.Need-same_radii-requires
+same_radii-requires c κs = search rules
 
-is-zero-requires : tie.Need-is-zero-requires
-is-zero-requires c κs = search rules
+is_zero-requires : tie.Need-is_zero-requires
+is_zero-requires c κs = search rules
 
-returns : tie.Need-returns
+returns-in-None : tie.Need-returns-in-None
 unfolding as_constructed
-returns c = search rules
+returns-in-None c = search rules
 
-returns-2 : tie.Need-returns-2
+returns-in-Square : tie.Need-returns-in-Square
 unfolding as_constructed
-returns-2 c = rw (c.before.before.before.clip.given.1, c.same_rect_lem.ensures, c.before.abs.ensures)
+returns-in-Square c = rw (c.in-Square.is, c.same_rect.ensures, c.abs.ensures)
 
-returns-3 : tie.Need-returns-3
+returns-in-Rounded : tie.Need-returns-in-Rounded
 unfolding as_constructed
-returns-3 c = rw (c.before.before.before.before.before.before.clip2.given.1, c.is_zero.ensures, c.before.same_radii_lem.ensures, c.before.before.fit.ensures, c.before.before.before.same-rect2.ensures, c.before.before.before.before.abs2.ensures)
+returns-in-Rounded c = rw (c.in-Rounded.is, c.is_zero.ensures, c.same_radii.ensures, c.fit.ensures, c.same_rect-in-Rounded.ensures, c.abs-in-Rounded.ensures)
 
-pub is-constructed-spec : {M : Type 1} → statement M
-is-constructed-spec =
+pub is_constructed_spec : {M : Type 1} → statement M
+is_constructed_spec =
     tie.close
     (tie.spec
-    enum_told
-    enum-known-clip
+    enum_told-1
+    enum_known-clip
     abs-requires
-    same-rect-requires
-    enum-known-clip-2
-    abs-requires-2
-    same-rect-requires-2
+    same_rect-requires
+    enum_known-clip-in-Rounded-1
+    abs-requires-in-Rounded
+    same_rect-requires-in-Rounded
     fit-requires
-    same-radii-requires
-    is-zero-requires
-    returns
-    returns-2
-    returns-3)
+    same_radii-requires
+    is_zero-requires
+    returns-in-None
+    returns-in-Square
+    returns-in-Rounded)

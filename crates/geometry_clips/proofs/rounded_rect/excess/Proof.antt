@@ -4,18 +4,18 @@ use Rattle.geometry_clips.specs.rounded_rect.RoundedRect.{excess}
 use Rattle.geometry_clips.proofs.rounded_rect.excess.Statement.{statement}
 use Rattle.geometry_clips.proofs.rounded_rect.excess.Tie as tie
 
-max-requires : tie.Need-max-requires
-max-requires c κs = search rules
+max-straight-requires : tie.Need-max-straight-requires
+max-straight-requires c κs = search rules
 
 abs-requires : tie.Need-abs-requires
 abs-requires c κs = search rules
 
-max-requires-2 : tie.Need-max-requires-2
-max-requires-2 c κs = search rules
+max-requires : tie.Need-max-requires
+max-requires c κs = search rules
 
 returns : tie.Need-returns
 unfolding excess of_bits of_fields odd
-returns c = rw (c.max2.ensures, c.before.abs.ensures, c.before.before.max.ensures)
+returns c = rw (c.max.ensures, c.abs.ensures, c.max-straight.ensures)
 
-pub excess-spec : {M : Type 1} → statement M
-excess-spec = tie.close (tie.spec max-requires abs-requires max-requires-2 returns)
+pub excess_spec : {M : Type 1} → statement M
+excess_spec = tie.close (tie.spec max-straight-requires abs-requires max-requires returns)

@@ -3,7 +3,7 @@ use Rattle.geometry_clips.proofs.rounded_rect.same_rect.Statement.{statement}
 use Rattle.geometry_clips.proofs.rounded_rect.same_rect.Tie as tie
 
 returns : tie.Need-returns
-returns c = rw (c.same4.ensures, c.before.same3.ensures, c.before.before.same2.ensures, c.before.before.before.same.ensures)
+returns c = rw (c.same-4.ensures, c.same-3.ensures, c.same-2.ensures, c.same.ensures)
 
-pub same-rect-spec : {M : Type 1} → statement M
-same-rect-spec = tie.close (tie.spec (λ c κs. search rules) (λ c κs. search rules) (λ c κs. search rules) (λ c κs. search rules) returns)
+pub same_rect_spec : {M : Type 1} → statement M
+same_rect_spec = tie.close (tie.spec (λ c κs. search rules) (λ c κs. search rules) (λ c κs. search rules) (λ c κs. search rules) returns)

@@ -3,58 +3,58 @@ use Rattle.index_entries.specs.reads.Reads.{look_up}
 use Rattle.index_entries.proofs.reads.look_up.Statement.{statement}
 use Rattle.index_entries.proofs.reads.look_up.Tie as tie
 
+returns-then-key-ge512 : tie.Need-returns-then-key-ge512
+unfolding look_up
+returns-then-key-ge512 c = let A = c.args in rw (look_up, le-ltb A.key.0 512 c.if-key-ge512.true)
+
+overflow_cast-x : tie.Need-overflow_cast-x
+overflow_cast-x c = search rules
+
+bounds-mark-x : tie.Need-bounds-mark-x
+bounds-mark-x c = search rules
+
+offset_bounds-generation-x : tie.Need-offset_bounds-generation-x
+offset_bounds-generation-x c = search rules
+
+bounds-generation-x : tie.Need-bounds-generation-x
+bounds-generation-x c = search rules
+
+returns-then-mark-x : tie.Need-returns-then-mark-x
+unfolding look_up
+returns-then-mark-x c = let A = c.args in rw (look_up, lt-ltb A.key.0 512 c.if-key-ge512.false, c.if-mark-x.true)
+
+box_at-requires : tie.Need-box_at-requires
+box_at-requires c κs = search rules
+
+id_at-requires : tie.Need-id_at-requires
+id_at-requires c κs = search rules
+
+bounds-mark-x-2 : tie.Need-bounds-mark-x-2
+bounds-mark-x-2 c = search rules
+
+mark_of-requires : tie.Need-mark_of-requires
+mark_of-requires c κs = search rules
+
+previous_at-requires : tie.Need-previous_at-requires
+previous_at-requires c κs = search rules
+
 returns : tie.Need-returns
 unfolding look_up
-returns c = let A = c.before.before.args in rw (look_up, le-ltb A.key.0 512 c.if1.true)
+returns c = let A = c.args in rw (look_up, lt-ltb A.key.0 512 c.if-key-ge512.false, c.if-mark-x.false, c.previous_at.ensures, c.mark_of.ensures, c.id_at.ensures, c.box_at.ensures)
 
-cast-x : tie.Need-overflow-cast-x
-cast-x c = search rules
-
-element-copy-out-if2 : tie.Need-element-copy-out-if2
-element-copy-out-if2 c = search rules
-
-mul-if2 : tie.Need-overflow-mul-if2
-mul-if2 c = search rules
-
-element-copy-out-if2-2 : tie.Need-element-copy-out-if2-2
-element-copy-out-if2-2 c = search rules
-
-returns-2 : tie.Need-returns-2
-unfolding look_up
-returns-2 c = let A = c.before.before.before.before.before.before.before.args in rw (look_up, lt-ltb A.key.0 512 c.before.before.before.before.before.if1.false, c.if2.true)
-
-box-at-requires : tie.Need-box-at-requires
-box-at-requires c κs = search rules
-
-id-at-requires : tie.Need-id-at-requires
-id-at-requires c κs = search rules
-
-element-copy-out-mark-of : tie.Need-element-copy-out-mark-of
-element-copy-out-mark-of c = search rules
-
-mark-of-requires : tie.Need-mark-of-requires
-mark-of-requires c κs = search rules
-
-previous-at-requires : tie.Need-previous-at-requires
-previous-at-requires c κs = search rules
-
-returns-3 : tie.Need-returns-3
-unfolding look_up
-returns-3 c = let A = c.before.before.before.before.before.before.before.before.before.before.before.before.args in rw (look_up, lt-ltb A.key.0 512 c.before.before.before.before.before.before.before.before.before.before.if1.false, c.before.before.before.before.before.if2.false, c.previous-at.ensures, c.before.mark_of.ensures, c.before.before.before.id-at.ensures, c.before.before.before.before.box-at.ensures)
-
-pub look-up-spec : {M : Type 1} → statement M
-look-up-spec =
+pub look_up_spec : {M : Type 1} → statement M
+look_up_spec =
     tie.close
     (tie.spec
-    returns
-    cast-x
-    element-copy-out-if2
-    mul-if2
-    element-copy-out-if2-2
-    returns-2
-    box-at-requires
-    id-at-requires
-    element-copy-out-mark-of
-    mark-of-requires
-    previous-at-requires
-    returns-3)
+    returns-then-key-ge512
+    overflow_cast-x
+    bounds-mark-x
+    offset_bounds-generation-x
+    bounds-generation-x
+    returns-then-mark-x
+    box_at-requires
+    id_at-requires
+    bounds-mark-x-2
+    mark_of-requires
+    previous_at-requires
+    returns)

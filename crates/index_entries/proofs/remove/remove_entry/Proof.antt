@@ -3,71 +3,71 @@ use Rattle.index_entries.specs.remove.Marks.{added}
 use Rattle.index_entries.proofs.remove.remove_entry.Statement.{statement}
 use Rattle.index_entries.proofs.remove.remove_entry.Tie as tie
 
-enum_told : tie.Need-enum-told
-enum_told c = search rules
+enum_told-1 : tie.Need-enum_told-1
+enum_told-1 c = search rules
 
-element-write-mark : tie.Need-element-write-mark
-element-write-mark c = search rules
+bounds-mark-at : tie.Need-bounds-mark-at
+bounds-mark-at c = search rules
 
-mul-free : tie.Need-overflow-mul-free
-mul-free c = omega (arith, c.before.before.requires.4 (ap added c.enum_told.given.1))
+offset_bounds-free-frees : tie.Need-offset_bounds-free-frees
+offset_bounds-free-frees c = omega (arith, c.requires.4 (ap added c.in-Added.is))
 
-element-write-free : tie.Need-element-write-free
-element-write-free c = omega (arith, c.before.before.requires.4 (ap added c.enum_told.given.1))
+bounds-free-frees : tie.Need-bounds-free-frees
+bounds-free-frees c = omega (arith, c.requires.4 (ap added c.in-Added.is))
 
-add-t12 : tie.Need-overflow-add-t12
-add-t12 c = omega (arith, c.before.before.requires.4 (ap added c.enum_told.given.1))
+overflow_add-result : tie.Need-overflow_add-result
+overflow_add-result c = omega (arith, c.requires.4 (ap added c.in-Added.is))
 
-enum-told-2 : tie.Need-enum-told-2
-enum-told-2 c = search rules
+enum_told-in-Unmarked : tie.Need-enum_told-in-Unmarked
+enum_told-in-Unmarked c = search rules
 
-element-write-mark-2 : tie.Need-element-write-mark-2
-element-write-mark-2 c = search rules
+bounds-mark-at-in-Unmarked : tie.Need-bounds-mark-at-in-Unmarked
+bounds-mark-at-in-Unmarked c = search rules
 
-queue-dirty-slot-requires : tie.Need-queue-dirty-slot-requires
-queue-dirty-slot-requires c κs = search rules
+queue_dirty_slot-requires : tie.Need-queue_dirty_slot-requires
+queue_dirty_slot-requires c κs = search rules
 
-enum-told-3 : tie.Need-enum-told-3
-enum-told-3 c = search rules
+enum_told-in-Updated : tie.Need-enum_told-in-Updated
+enum_told-in-Updated c = search rules
 
-element-write-mark-3 : tie.Need-element-write-mark-3
-element-write-mark-3 c = search rules
+bounds-mark-at-in-Updated : tie.Need-bounds-mark-at-in-Updated
+bounds-mark-at-in-Updated c = search rules
 
-enum-told-4 : tie.Need-enum-told-4
-enum-told-4 c = search rules
+enum_told-in-Removed : tie.Need-enum_told-in-Removed
+enum_told-in-Removed c = search rules
 
-element-write-mark-4 : tie.Need-element-write-mark-4
-element-write-mark-4 c = search rules
+bounds-mark-at-in-Removed : tie.Need-bounds-mark-at-in-Removed
+bounds-mark-at-in-Removed c = search rules
 
-returns : tie.Need-returns
-returns c = rw c.enum_told.given.1 (refl, (refl, (refl, (refl, refl))))
+returns-in-Added : tie.Need-returns-in-Added
+returns-in-Added c = rw c.in-Added.is (refl, (refl, (refl, (refl, refl))))
 
-returns-2 : tie.Need-returns-2
-returns-2 c = let q = c.queue-dirty-slot.ensures in rw c.before.before.enum-told2.given.1 (refl, (refl, (q.0, (refl, q.1))))
+returns-in-Unmarked : tie.Need-returns-in-Unmarked
+returns-in-Unmarked c = let q = c.queue_dirty_slot.ensures in rw c.in-Unmarked.is (refl, (refl, (q.0, (refl, q.1))))
 
-returns-3 : tie.Need-returns-3
-returns-3 c = rw c.enum-told3.given.1 (refl, (refl, (refl, (refl, refl))))
+returns-in-Updated : tie.Need-returns-in-Updated
+returns-in-Updated c = rw c.in-Updated.is (refl, (refl, (refl, (refl, refl))))
 
-returns-4 : tie.Need-returns-4
-returns-4 c = rw c.enum-told4.given.1 (refl, (refl, (refl, (refl, refl))))
+returns-in-Removed : tie.Need-returns-in-Removed
+returns-in-Removed c = rw c.in-Removed.is (refl, (refl, (refl, (refl, refl))))
 
-pub remove-entry-spec : {M : Type 1} → statement M
-remove-entry-spec =
+pub remove_entry_spec : {M : Type 1} → statement M
+remove_entry_spec =
     tie.close
     (tie.spec
-    enum_told
-    element-write-mark
-    mul-free
-    element-write-free
-    add-t12
-    enum-told-2
-    element-write-mark-2
-    queue-dirty-slot-requires
-    enum-told-3
-    element-write-mark-3
-    enum-told-4
-    element-write-mark-4
-    returns
-    returns-2
-    returns-3
-    returns-4)
+    enum_told-1
+    bounds-mark-at
+    offset_bounds-free-frees
+    bounds-free-frees
+    overflow_add-result
+    enum_told-in-Unmarked
+    bounds-mark-at-in-Unmarked
+    queue_dirty_slot-requires
+    enum_told-in-Updated
+    bounds-mark-at-in-Updated
+    enum_told-in-Removed
+    bounds-mark-at-in-Removed
+    returns-in-Added
+    returns-in-Unmarked
+    returns-in-Updated
+    returns-in-Removed)

@@ -7,5 +7,5 @@ returns : tie.Need-returns
 unfolding contains_point
 returns c = refl
 
-pub contains-point-spec : {M : Type 1} → statement M
-contains-point-spec = tie.close (tie.spec returns)
+pub contains_point_spec : {M : Type 1} → statement M
+contains_point_spec = tie.close (tie.spec returns)

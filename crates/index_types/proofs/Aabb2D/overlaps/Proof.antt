@@ -7,5 +7,5 @@ returns : tie.Need-returns
 unfolding overlaps
 returns c = refl
 
-pub overlaps-spec : {M : Type 1} → statement M
-overlaps-spec = tie.close (tie.spec returns)
+pub overlaps_spec : {M : Type 1} → statement M
+overlaps_spec = tie.close (tie.spec returns)

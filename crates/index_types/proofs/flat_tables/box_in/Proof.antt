@@ -5,60 +5,60 @@ use Rattle.index_types.specs.flat_tables.Tables.{box_at}
 use Rattle.index_types.proofs.flat_tables.box_in.Statement.{statement}
 use Rattle.index_types.proofs.flat_tables.box_in.Tie as tie
 
-mul-p : tie.Need-overflow-mul-p
-mul-p c = search rules
+overflow_mul-p : tie.Need-overflow_mul-p
+overflow_mul-p c = search rules
 
-mul-t4 : tie.Need-overflow-mul-t4
-mul-t4 c = search rules
+offset_bounds-room-p : tie.Need-offset_bounds-room-p
+offset_bounds-room-p c = search rules
 
-shared-slice-read-t6 : tie.Need-shared-slice-read-t6
-shared-slice-read-t6 c = search rules
+bounds-room-p : tie.Need-bounds-room-p
+bounds-room-p c = search rules
 
-add-t7 : tie.Need-overflow-add-t7
-add-t7 c = search rules
+overflow_add-result : tie.Need-overflow_add-result
+overflow_add-result c = search rules
 
-mul-t8 : tie.Need-overflow-mul-t8
-mul-t8 c = search rules
+offset_bounds-room-p-2 : tie.Need-offset_bounds-room-p-2
+offset_bounds-room-p-2 c = search rules
 
-shared-slice-read-t10 : tie.Need-shared-slice-read-t10
-shared-slice-read-t10 c = search rules
+bounds-room-p-2 : tie.Need-bounds-room-p-2
+bounds-room-p-2 c = search rules
 
-add-t11 : tie.Need-overflow-add-t11
-add-t11 c = search rules
+overflow_add-result-2 : tie.Need-overflow_add-result-2
+overflow_add-result-2 c = search rules
 
-mul-t12 : tie.Need-overflow-mul-t12
-mul-t12 c = search rules
+offset_bounds-room-p-3 : tie.Need-offset_bounds-room-p-3
+offset_bounds-room-p-3 c = search rules
 
-shared-slice-read-t14 : tie.Need-shared-slice-read-t14
-shared-slice-read-t14 c = search rules
+bounds-room-p-3 : tie.Need-bounds-room-p-3
+bounds-room-p-3 c = search rules
 
-add-t15 : tie.Need-overflow-add-t15
-add-t15 c = search rules
+overflow_add-result-3 : tie.Need-overflow_add-result-3
+overflow_add-result-3 c = search rules
 
-mul-t16 : tie.Need-overflow-mul-t16
-mul-t16 c = search rules
+offset_bounds-room-p-4 : tie.Need-offset_bounds-room-p-4
+offset_bounds-room-p-4 c = search rules
 
-shared-slice-read-t18 : tie.Need-shared-slice-read-t18
-shared-slice-read-t18 c = search rules
+bounds-room-p-4 : tie.Need-bounds-room-p-4
+bounds-room-p-4 c = search rules
 
 returns : tie.Need-returns
 unfolding box_at
 returns c = simp (cell, add-zero)
 
-pub box-in-spec : {M : Type 1} → statement M
-box-in-spec =
+pub box_in_spec : {M : Type 1} → statement M
+box_in_spec =
     tie.close
     (tie.spec
-    mul-p
-    mul-t4
-    shared-slice-read-t6
-    add-t7
-    mul-t8
-    shared-slice-read-t10
-    add-t11
-    mul-t12
-    shared-slice-read-t14
-    add-t15
-    mul-t16
-    shared-slice-read-t18
+    overflow_mul-p
+    offset_bounds-room-p
+    bounds-room-p
+    overflow_add-result
+    offset_bounds-room-p-2
+    bounds-room-p-2
+    overflow_add-result-2
+    offset_bounds-room-p-3
+    bounds-room-p-3
+    overflow_add-result-3
+    offset_bounds-room-p-4
+    bounds-room-p-4
     returns)

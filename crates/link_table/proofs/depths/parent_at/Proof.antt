@@ -8,77 +8,77 @@ use Rattle.link_table.proofs.depths.Depths.{parent_on, parent_stop}
 use Rattle.link_table.proofs.depths.parent_at.Statement.{statement}
 use Rattle.link_table.proofs.depths.parent_at.Tie as tie
 
-abbrev invariant-loop : tie.invariant-loop
-invariant-loop order depth at root d j₀ j = (j ≤ at) × (at < 256) × (last_above d root (take at order) (take at depth) ≡ last_above d root (take j order) (take j depth))
+abbrev invariant-loop-j : tie.invariant-loop-j
+invariant-loop-j order depth at root d j₀ j = (j ≤ at) × (at < 256) × (last_above d root (take at order) (take at depth) ≡ last_above d root (take j order) (take j depth))
 
-abbrev decreases-loop : tie.decreases-loop
-decreases-loop order depth at root d j₀ j = j
+abbrev decreases-loop-j : tie.decreases-loop-j
+decreases-loop-j order depth at root d j₀ j = j
 
-mul-d : tie.Need-overflow-mul-d invariant-loop decreases-loop
-mul-d c = search rules
+offset_bounds-depth-at : tie.Need-offset_bounds-depth-at invariant-loop-j decreases-loop-j
+offset_bounds-depth-at c = search rules
 
-element-copy-out-d : tie.Need-element-copy-out-d invariant-loop decreases-loop
-element-copy-out-d c = search rules
+bounds-depth-at : tie.Need-bounds-depth-at invariant-loop-j decreases-loop-j
+bounds-depth-at c = search rules
 
-loop-holds : tie.Need-loop-init invariant-loop decreases-loop
-loop-holds c = (omega arith, search rules, refl)
+loop-j-init : tie.Need-loop-j-init invariant-loop-j decreases-loop-j
+loop-j-init c = (omega arith, search rules, refl)
 
-sub-j : tie.Need-overflow-sub-j invariant-loop decreases-loop
-sub-j c = search rules
+overflow_sub-j : tie.Need-overflow_sub-j invariant-loop-j decreases-loop-j
+overflow_sub-j c = search rules
 
-mul-if1 : tie.Need-overflow-mul-if1 invariant-loop decreases-loop
-mul-if1 c = search rules
+offset_bounds-depth-j : tie.Need-offset_bounds-depth-j invariant-loop-j decreases-loop-j
+offset_bounds-depth-j c = search rules
 
-element-copy-out-if1 : tie.Need-element-copy-out-if1 invariant-loop decreases-loop
-element-copy-out-if1 c = search rules
+bounds-depth-j : tie.Need-bounds-depth-j invariant-loop-j decreases-loop-j
+bounds-depth-j c = search rules
 
-mul-result : tie.Need-overflow-mul-result invariant-loop decreases-loop
-mul-result c = search rules
+offset_bounds-order-j : tie.Need-offset_bounds-order-j invariant-loop-j decreases-loop-j
+offset_bounds-order-j c = search rules
 
-element-copy-out-result : tie.Need-element-copy-out-result invariant-loop decreases-loop
-element-copy-out-result c = search rules
+bounds-order-j : tie.Need-bounds-order-j invariant-loop-j decreases-loop-j
+bounds-order-j c = search rules
 
-returns : tie.Need-returns invariant-loop decreases-loop
-returns c =
-    let L = c.before.before.before.before.loop in
-    let A = c.before.before.before.before.before.before.args in
+returns-then-depth-j : tie.Need-returns-then-depth-j invariant-loop-j decreases-loop-j
+returns-then-depth-j c =
+    let L = c.loop-j in
+    let A = c.args in
     let lx : length A.order.now ≡ 256 = search rules in
     let ld : length A.depth.now ≡ 256 = search rules in
-    sym (L.invariant.2 ∙ parent_stop (get_or A.depth.now A.at 0) A.root L.j A.order.now A.depth.now (omega arith) (omega arith) (omega arith) c.before.if1.true)
+    sym (L.invariant.2 ∙ parent_stop (get_or A.depth.now A.at 0) A.root L.j A.order.now A.depth.now (omega arith) (omega arith) (omega arith) c.if-depth-j.true)
 
-loop-less : tie.Need-loop-smaller invariant-loop decreases-loop
-loop-less c = search rules
+loop-j-smaller : tie.Need-loop-j-smaller invariant-loop-j decreases-loop-j
+loop-j-smaller c = search rules
 
-loop-again : tie.Need-loop-preserved invariant-loop decreases-loop
-loop-again c =
-    let L = c.before.before.before.loop in
-    let A = c.before.before.before.before.before.args in
+loop-j-preserved : tie.Need-loop-j-preserved invariant-loop-j decreases-loop-j
+loop-j-preserved c =
+    let L = c.loop-j in
+    let A = c.args in
     let lx : length A.order.now ≡ 256 = search rules in
     let ld : length A.depth.now ≡ 256 = search rules in
-    (omega arith, omega arith, L.invariant.2 ∙ parent_on (get_or A.depth.now A.at 0) A.root L.j A.order.now A.depth.now (omega arith) (omega arith) (omega arith) c.if1.false)
+    (omega arith, omega arith, L.invariant.2 ∙ parent_on (get_or A.depth.now A.at 0) A.root L.j A.order.now A.depth.now (omega arith) (omega arith) (omega arith) c.if-depth-j.false)
 
-returns-2 : tie.Need-returns-2 invariant-loop decreases-loop
+returns : tie.Need-returns invariant-loop-j decreases-loop-j
 unfolding last_above
-returns-2 c =
-    let L = c.before.loop in
+returns c =
+    let L = c.loop-j in
     let z : L.j ≡ 0 = omega arith in
     sym (rw z at L.invariant.2)
 
-pub parent-at-spec : {M : Type 1} → statement M
-parent-at-spec =
+pub parent_at_spec : {M : Type 1} → statement M
+parent_at_spec =
     tie.close
     (tie.spec
-    invariant-loop
-    decreases-loop
-    mul-d
-    element-copy-out-d
-    loop-holds
-    sub-j
-    mul-if1
-    element-copy-out-if1
-    mul-result
-    element-copy-out-result
-    returns
-    loop-less
-    loop-again
-    returns-2)
+    invariant-loop-j
+    decreases-loop-j
+    offset_bounds-depth-at
+    bounds-depth-at
+    loop-j-init
+    overflow_sub-j
+    offset_bounds-depth-j
+    bounds-depth-j
+    offset_bounds-order-j
+    bounds-order-j
+    returns-then-depth-j
+    loop-j-smaller
+    loop-j-preserved
+    returns)

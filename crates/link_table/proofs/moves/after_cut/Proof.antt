@@ -5,17 +5,17 @@ use Rattle.link_table.proofs.Changes.{after_less, after_more}
 use Rattle.link_table.proofs.moves.after_cut.Statement.{statement}
 use Rattle.link_table.proofs.moves.after_cut.Tie as tie
 
-sub-result : tie.Need-overflow-sub-result
-sub-result c = search rules
+overflow_sub-result : tie.Need-overflow_sub-result
+overflow_sub-result c = search rules
 
-sub-result-2 : tie.Need-overflow-sub-result-2
-sub-result-2 c = omega (arith, c.before.requires.1 c.if1.false)
+overflow_sub-result-else-p-at : tie.Need-overflow_sub-result-else-p-at
+overflow_sub-result-else-p-at c = omega (arith, c.requires.1 c.if-p-at.false)
 
-returns : tie.Need-returns
-returns c = let A = c.before.args in sym (after_less A.at A.e A.p c.if1.true)
+returns-then-p-at : tie.Need-returns-then-p-at
+returns-then-p-at c = let A = c.args in sym (after_less A.at A.e A.p c.if-p-at.true)
 
-returns-2 : tie.Need-returns-2
-returns-2 c = let A = c.before.args in sym (after_more A.at A.e A.p c.if1.false)
+returns-else-p-at : tie.Need-returns-else-p-at
+returns-else-p-at c = let A = c.args in sym (after_more A.at A.e A.p c.if-p-at.false)
 
-pub after-cut-spec : {M : Type 1} → statement M
-after-cut-spec = tie.close (tie.spec sub-result sub-result-2 returns returns-2)
+pub after_cut_spec : {M : Type 1} → statement M
+after_cut_spec = tie.close (tie.spec overflow_sub-result overflow_sub-result-else-p-at returns-then-p-at returns-else-p-at)

@@ -11,46 +11,46 @@ use Rattle.link_table.proofs.Steps.{level_put, level_pass, level_rest, level_end
 use Rattle.link_table.proofs.segments.children.Statement.{statement}
 use Rattle.link_table.proofs.segments.children.Tie as tie
 
-abbrev invariant-loop : tie.invariant-loop
-invariant-loop order depth from e k out₀ m₀ i₀ out m i = (from ≤ i) × (i ≤ e) × (m ≤ i - from) × (length out ≡ 256) × (take m out ++ at_depth k (between i e order) (between i e depth) ≡ at_depth k (between from e order) (between from e depth)) × (drop m out ≡ drop m out₀)
+abbrev invariant-loop-i : tie.invariant-loop-i
+invariant-loop-i order depth from e k out₀ m₀ i₀ out m i = (from ≤ i) × (i ≤ e) × (m ≤ i - from) × (length out ≡ 256) × (take m out ++ at_depth k (between i e order) (between i e depth) ≡ at_depth k (between from e order) (between from e depth)) × (drop m out ≡ drop m out₀)
 
-abbrev decreases-loop : tie.decreases-loop
-decreases-loop order depth from e k out₀ m₀ i₀ out m i = e - i
+abbrev decreases-loop-i : tie.decreases-loop-i
+decreases-loop-i order depth from e k out₀ m₀ i₀ out m i = e - i
 
-loop-holds : tie.Need-loop-init invariant-loop decreases-loop
-loop-holds c = (omega arith, omega arith, omega arith, search rules, refl, refl)
+loop-i-init : tie.Need-loop-i-init invariant-loop-i decreases-loop-i
+loop-i-init c = (omega arith, omega arith, omega arith, search rules, refl, refl)
 
-mul-if1 : tie.Need-overflow-mul-if1 invariant-loop decreases-loop
-mul-if1 c = search rules
+offset_bounds-depth-i : tie.Need-offset_bounds-depth-i invariant-loop-i decreases-loop-i
+offset_bounds-depth-i c = search rules
 
-element-copy-out-if1 : tie.Need-element-copy-out-if1 invariant-loop decreases-loop
-element-copy-out-if1 c = search rules
+bounds-depth-i : tie.Need-bounds-depth-i invariant-loop-i decreases-loop-i
+bounds-depth-i c = search rules
 
-mul-out : tie.Need-overflow-mul-out invariant-loop decreases-loop
-mul-out c = search rules
+offset_bounds-order-i : tie.Need-offset_bounds-order-i invariant-loop-i decreases-loop-i
+offset_bounds-order-i c = search rules
 
-element-copy-out-out : tie.Need-element-copy-out-out invariant-loop decreases-loop
-element-copy-out-out c = search rules
+bounds-order-i : tie.Need-bounds-order-i invariant-loop-i decreases-loop-i
+bounds-order-i c = search rules
 
-mul-out-2 : tie.Need-overflow-mul-out-2 invariant-loop decreases-loop
-mul-out-2 c = search rules
+offset_bounds-out-m : tie.Need-offset_bounds-out-m invariant-loop-i decreases-loop-i
+offset_bounds-out-m c = search rules
 
-element-write-out : tie.Need-element-write-out invariant-loop decreases-loop
-element-write-out c = search rules
+bounds-out-m : tie.Need-bounds-out-m invariant-loop-i decreases-loop-i
+bounds-out-m c = search rules
 
-add-m : tie.Need-overflow-add-m invariant-loop decreases-loop
-add-m c = search rules
+overflow_add-m : tie.Need-overflow_add-m invariant-loop-i decreases-loop-i
+overflow_add-m c = search rules
 
-add-i : tie.Need-overflow-add-i invariant-loop decreases-loop
-add-i c = search rules
+overflow_add-i : tie.Need-overflow_add-i invariant-loop-i decreases-loop-i
+overflow_add-i c = search rules
 
-loop-less : tie.Need-loop-smaller invariant-loop decreases-loop
-loop-less c = search rules
+loop-i-smaller : tie.Need-loop-i-smaller invariant-loop-i decreases-loop-i
+loop-i-smaller c = search rules
 
-loop-again : tie.Need-loop-preserved invariant-loop decreases-loop
-loop-again c =
-    let L = c.before.before.before.loop in
-    let A = c.before.before.before.before.args in
+loop-i-preserved : tie.Need-loop-i-preserved invariant-loop-i decreases-loop-i
+loop-i-preserved c =
+    let L = c.loop-i in
+    let A = c.args in
     let X = A.order.now in
     let D = A.depth.now in
     let lx : length X ≡ 256 = search rules in
@@ -73,32 +73,32 @@ loop-again c =
       rw (w.1, w.2) (rw (level_pass A.k L.i A.e X D (omega arith) (omega arith) h w.0.left) at L.invariant.4),
       rw (w.1, w.2) L.invariant.5,
     ))
-    c.if1.branch
+    c.if-depth-i.branch
 
-returns : tie.Need-returns invariant-loop decreases-loop
+returns : tie.Need-returns invariant-loop-i decreases-loop-i
 returns c =
-    let L = c.before.loop in
-    let A = c.before.before.args in
+    let L = c.loop-i in
+    let A = c.args in
     let z : L.i ≡ A.e = omega arith in
     let all = at_depth A.k (between A.from A.e A.order.now) (between A.from A.e A.depth.now) in
     let end = level_end A.k A.e L.m A.order.now A.depth.now L.out A.out.now all (omega arith) (rw z at L.invariant.4) L.invariant.5 in
     ((L.invariant.3, end.0), (omega arith, end.1))
 
-pub children-spec : {M : Type 1} → statement M
-children-spec =
+pub children_spec : {M : Type 1} → statement M
+children_spec =
     tie.close
     (tie.spec
-    invariant-loop
-    decreases-loop
-    loop-holds
-    mul-if1
-    element-copy-out-if1
-    mul-out
-    element-copy-out-out
-    mul-out-2
-    element-write-out
-    add-m
-    add-i
-    loop-less
-    loop-again
+    invariant-loop-i
+    decreases-loop-i
+    loop-i-init
+    offset_bounds-depth-i
+    bounds-depth-i
+    offset_bounds-order-i
+    bounds-order-i
+    offset_bounds-out-m
+    bounds-out-m
+    overflow_add-m
+    overflow_add-i
+    loop-i-smaller
+    loop-i-preserved
     returns)

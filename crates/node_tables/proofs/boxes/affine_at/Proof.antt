@@ -9,8 +9,8 @@ returns : tie.Need-returns
 unfolding affine_at
 returns c = simp (cell, add-zero)
 
-pub affine-at-spec : {M : Type 1} → statement M
-affine-at-spec =
+pub affine_at_spec : {M : Type 1} → statement M
+affine_at_spec =
     tie.close
     (tie.spec
     (λ c. search rules) (λ c. search rules) (λ c. search rules) (λ c. search rules) (λ c. search rules)

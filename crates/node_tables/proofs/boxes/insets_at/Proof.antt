@@ -4,12 +4,12 @@ use Rattle.node_tables.specs.Tables.{insets_at}
 use Rattle.node_tables.proofs.boxes.insets_at.Statement.{statement}
 use Rattle.node_tables.proofs.boxes.insets_at.Tie as tie
 
-box-in-requires : tie.Need-box-in-requires
-box-in-requires c κs = search rules
+box_in-b-requires : tie.Need-box_in-b-requires
+box_in-b-requires c κs = search rules
 
 returns : tie.Need-returns
 unfolding box_at insets_at
-returns c = rw c.box_in.ensures
+returns c = rw c.box_in-b.ensures
 
-pub insets-at-spec : {M : Type 1} → statement M
-insets-at-spec = tie.close (tie.spec box-in-requires returns)
+pub insets_at_spec : {M : Type 1} → statement M
+insets_at_spec = tie.close (tie.spec box_in-b-requires returns)

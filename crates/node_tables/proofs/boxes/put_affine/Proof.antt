@@ -10,8 +10,8 @@ returns : tie.Need-returns
 unfolding put_affine
 returns c = simp (add-one, plus_2, plus_3, plus_4, plus_5)
 
-pub put-affine-spec : {M : Type 1} → statement M
-put-affine-spec =
+pub put_affine_spec : {M : Type 1} → statement M
+put_affine_spec =
     tie.close
     (tie.spec
     (λ c. search rules) (λ c. search rules) (λ c. search rules) (λ c. search rules) (λ c. search rules)

@@ -7,19 +7,19 @@ use Rattle.node_tables.proofs.clip_stores.clip_edges.Tie as tie
 rect-requires : tie.Need-rect-requires
 rect-requires c κs = search rules
 
-enum_told : tie.Need-enum-told
-enum_told c = search rules
+enum_told-1 : tie.Need-enum_told-1
+enum_told-1 c = search rules
 
-enum-known-r : tie.Need-enum-known-r
-enum-known-r c = search rules
+enum_known-r : tie.Need-enum_known-r
+enum_known-r c = search rules
 
-returns : tie.Need-returns
+returns-in-None : tie.Need-returns-in-None
 unfolding edges_from of_bits of_fields odd
-returns c = rw (← c.before.before.rect.ensures, c.enum_told.given.1)
+returns-in-None c = rw (← c.rect.ensures, c.in-None.is)
 
-returns-2 : tie.Need-returns-2
+returns-in-Some : tie.Need-returns-in-Some
 unfolding edges_from of_bits of_fields odd
-returns-2 c = rw (← c.before.before.before.rect.ensures, c.before.r.given.1)
+returns-in-Some c = rw (← c.rect.ensures, c.in-Some.is)
 
-pub clip-edges-spec : {M : Type 1} → statement M
-clip-edges-spec = tie.close (tie.spec rect-requires enum_told enum-known-r returns returns-2)
+pub clip_edges_spec : {M : Type 1} → statement M
+clip_edges_spec = tie.close (tie.spec rect-requires enum_told-1 enum_known-r returns-in-None returns-in-Some)

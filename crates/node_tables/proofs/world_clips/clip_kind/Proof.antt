@@ -3,27 +3,27 @@ use borrow.Author.Rules.{rules}
 use Rattle.node_tables.proofs.world_clips.clip_kind.Statement.{statement}
 use Rattle.node_tables.proofs.world_clips.clip_kind.Tie as tie
 
-enum_told : tie.Need-enum-told
-enum_told c = search rules
+enum_told-1 : tie.Need-enum_told-1
+enum_told-1 c = search rules
 
-enum-known-c : tie.Need-enum-known-c
-enum-known-c c = search rules
+enum_known-c : tie.Need-enum_known-c
+enum_known-c c = search rules
 
-enum-known-c-2 : tie.Need-enum-known-c-2
-enum-known-c-2 c = search rules
+enum_known-c-in-Rounded-1 : tie.Need-enum_known-c-in-Rounded-1
+enum_known-c-in-Rounded-1 c = search rules
 
-returns : tie.Need-returns
+returns-in-None : tie.Need-returns-in-None
 unfolding kind_of
-returns c = rw c.enum_told.given.1
+returns-in-None c = rw c.in-None.is
 
-returns-2 : tie.Need-returns-2
+returns-in-Square : tie.Need-returns-in-Square
 unfolding kind_of
-returns-2 c = rw c.before.c.given.1
+returns-in-Square c = rw c.in-Square.is
 
-returns-3 : tie.Need-returns-3
+returns-in-Rounded : tie.Need-returns-in-Rounded
 unfolding kind_of
-returns-3 c = rw c.before.c2.given.1
+returns-in-Rounded c = rw c.in-Rounded.is
 
-pub clip-kind-spec : {M : Type 1} → statement M
-clip-kind-spec =
-    tie.close (tie.spec enum_told enum-known-c enum-known-c-2 returns returns-2 returns-3)
+pub clip_kind_spec : {M : Type 1} → statement M
+clip_kind_spec =
+    tie.close (tie.spec enum_told-1 enum_known-c enum_known-c-in-Rounded-1 returns-in-None returns-in-Square returns-in-Rounded)

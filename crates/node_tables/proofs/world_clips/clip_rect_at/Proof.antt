@@ -3,16 +3,16 @@ use borrow.Author.Rules.{rules}
 use Rattle.node_tables.proofs.world_clips.clip_rect_at.Statement.{statement}
 use Rattle.node_tables.proofs.world_clips.clip_rect_at.Tie as tie
 
-rect-at-requires : tie.Need-rect-at-requires
-rect-at-requires c κs = search rules
+rect_at-requires : tie.Need-rect_at-requires
+rect_at-requires c κs = search rules
+
+returns-then-there : tie.Need-returns-then-there
+unfolding clip_rect_at
+returns-then-there c = rw (c.if-there.true, c.rect_at.ensures)
 
 returns : tie.Need-returns
 unfolding clip_rect_at
-returns c = rw (c.before.if1.true, c.rect-at.ensures)
+returns c = rw c.if-there.false
 
-returns-2 : tie.Need-returns-2
-unfolding clip_rect_at
-returns-2 c = rw c.if1.false
-
-pub clip-rect-at-spec : {M : Type 1} → statement M
-clip-rect-at-spec = tie.close (tie.spec rect-at-requires returns returns-2)
+pub clip_rect_at_spec : {M : Type 1} → statement M
+clip_rect_at_spec = tie.close (tie.spec rect_at-requires returns-then-there returns)

@@ -3,19 +3,19 @@ use borrow.Author.Rules.{rules}
 use Rattle.node_tables.proofs.world_clips.has_clip_rect.Statement.{statement}
 use Rattle.node_tables.proofs.world_clips.has_clip_rect.Tie as tie
 
-enum_told : tie.Need-enum-told
-enum_told c = search rules
+enum_told-1 : tie.Need-enum_told-1
+enum_told-1 c = search rules
 
-enum-known-c : tie.Need-enum-known-c
-enum-known-c c = search rules
+enum_known-c : tie.Need-enum_known-c
+enum_known-c c = search rules
 
-returns : tie.Need-returns
+returns-in-None : tie.Need-returns-in-None
 unfolding is_there
-returns c = rw c.enum_told.given.1
+returns-in-None c = rw c.in-None.is
 
-returns-2 : tie.Need-returns-2
+returns-in-Some : tie.Need-returns-in-Some
 unfolding is_there
-returns-2 c = rw c.before.c.given.1
+returns-in-Some c = rw c.in-Some.is
 
-pub has-clip-rect-spec : {M : Type 1} → statement M
-has-clip-rect-spec = tie.close (tie.spec enum_told enum-known-c returns returns-2)
+pub has_clip_rect_spec : {M : Type 1} → statement M
+has_clip_rect_spec = tie.close (tie.spec enum_told-1 enum_known-c returns-in-None returns-in-Some)

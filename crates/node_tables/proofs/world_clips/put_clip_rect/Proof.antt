@@ -3,23 +3,23 @@ use borrow.Author.Rules.{rules}
 use Rattle.node_tables.proofs.world_clips.put_clip_rect.Statement.{statement}
 use Rattle.node_tables.proofs.world_clips.put_clip_rect.Tie as tie
 
-enum-known-c : tie.Need-enum-known-c
-enum-known-c c = search rules
+enum_known-c : tie.Need-enum_known-c
+enum_known-c c = search rules
 
-put-rect-requires : tie.Need-put-rect-requires
-put-rect-requires c κs = search rules
+put_rect-requires : tie.Need-put_rect-requires
+put_rect-requires c κs = search rules
 
-enum_told : tie.Need-enum-told
-enum_told c = search rules
+enum_told-1 : tie.Need-enum_told-1
+enum_told-1 c = search rules
 
-returns : tie.Need-returns
+returns-in-Some : tie.Need-returns-in-Some
 unfolding put_clip_rect
-returns c = rw c.before.before.before.c.given.1 c.put-rect.ensures
+returns-in-Some c = rw c.in-Some.is c.put_rect.ensures
 
-returns-2 : tie.Need-returns-2
+returns-in_default : tie.Need-returns-in_default
 unfolding put_clip_rect
-returns-2 c = rw c.enum_told.given.1
+returns-in_default c = rw c.in_default.is
 
-pub put-clip-rect-spec : {M : Type 1} → statement M
-put-clip-rect-spec =
-    tie.close (tie.spec enum-known-c put-rect-requires enum_told returns returns-2)
+pub put_clip_rect_spec : {M : Type 1} → statement M
+put_clip_rect_spec =
+    tie.close (tie.spec enum_known-c put_rect-requires enum_told-1 returns-in-Some returns-in_default)

@@ -19,28 +19,28 @@ small why.OutOfRange = omega arith
 small why.BadPlace = omega arith
 small why.Trailing = omega arith
 
-put-word-requires : tie.Need-put-word-requires
-put-word-requires c κs = omega (arith, c.before.before.requires.1)
+put_word-at-requires : tie.Need-put_word-at-requires
+put_word-at-requires c κs = omega (arith, c.requires.1)
 
 number-requires : tie.Need-number-requires
 number-requires c κs = tt
 
-put-pair-requires : tie.Need-put-pair-requires
-put-pair-requires c κs =
+put_pair-requires : tie.Need-put_pair-requires
+put_pair-requires c κs =
     let w = c.before.before.before.before in
     let s = c.before.before.before.before.before.before.before in
-    (omega (arith, c.number.ensures, small s.args.why), s.requires.0, omega (arith, room_kept w.put_word.ensures, s.requires.1))
+    (omega (arith, c.number.ensures, small s.args.why), s.requires.0, omega (arith, room_kept w.put_word-at.ensures, s.requires.1))
 
-same_length : tie.Need-same-length
-same_length c = search rules
+shape_of-room : tie.Need-shape_of-room
+shape_of-room c = search rules
 
 returns : tie.Need-returns
 returns c =
     let q = c.before.before in
     let w = q.before.before.before.before.before in
-    let A = w.before.before.before.args in
-    then_stored A.room.now w.put_word.new.0 q.put-pair.new.0 0 w.put_word.result q.put-pair.result (text.bytes "refused ") (text.line_of (number_of A.why ∷ A.line ∷ [])) w.put_word.ensures
-    (rw (sym q.before.number.ensures) q.put-pair.ensures)
+    let A = w.args in
+    then_stored A.room.now w.put_word-at.new.0 q.put_pair.new.0 0 w.put_word-at.result q.put_pair.result (text.bytes "refused ") (text.line_of (number_of A.why ∷ A.line ∷ [])) w.put_word-at.ensures
+    (rw (sym q.number.ensures) q.put_pair.ensures)
 
-pub put-refused-spec : {M : Type 1} → statement M
-put-refused-spec = tie.close (tie.spec put-word-requires number-requires put-pair-requires same_length returns)
+pub put_refused_spec : {M : Type 1} → statement M
+put_refused_spec = tie.close (tie.spec put_word-at-requires number-requires put_pair-requires shape_of-room returns)

@@ -23,91 +23,91 @@ use Rattle.sheet_answers.proofs.tap_lines.Lines.{short_line, next_text, all_text
 use Rattle.sheet_answers.proofs.tap_lines.put_taps.Statement.{statement}
 use Rattle.sheet_answers.proofs.tap_lines.put_taps.Tie as tie
 
-abbrev invariant-loop : tie.invariant-loop
-invariant-loop taps n at room₀ t next₀ i₀ room next i =
+abbrev invariant-loop-i : tie.invariant-loop-i
+invariant-loop-i taps n at room₀ t next₀ i₀ room next i =
     (i ≤ n) × (length (tap_text t 1 (take i (rows_of tap_width n taps))) ≤ 15 * i) × Stored room₀ room at next (tap_text t 1 (take i (rows_of tap_width n taps)))
 
-abbrev decreases-loop : tie.decreases-loop
-decreases-loop taps n at room₀ t next₀ i₀ room next i = n - i
+abbrev decreases-loop-i : tie.decreases-loop-i
+decreases-loop-i taps n at room₀ t next₀ i₀ room next i = n - i
 
 -- ---- places of the code
 
-abbrev at-point : tie.After-strongest-arg14 invariant-loop decreases-loop → tie.After-point-of invariant-loop decreases-loop
-at-point c = c.before.before.before.before.before.before.before.before.before.before.before.before.before.before.before
+abbrev at_point : tie.After-strongest-arg-in-loop-i-13-1 invariant-loop-i decreases-loop-i → tie.After-point_of-point invariant-loop-i decreases-loop-i
+at_point c = c.before.before.before.before.before.before.before.before.before.before.before.before.before.before.before
 
-abbrev at-tap : tie.After-point-of invariant-loop decreases-loop → tie.After-tap-at invariant-loop decreases-loop
-at-tap c = c.before.before
+abbrev at_tap : tie.After-point_of-point invariant-loop-i decreases-loop-i → tie.After-tap_at-p invariant-loop-i decreases-loop-i
+at_tap c = c.before.before
 
-abbrev at-loop : tie.After-tap-at invariant-loop decreases-loop → tie.At-loop invariant-loop decreases-loop
-at-loop c = c.before.before
+abbrev at_loop : tie.After-tap_at-p invariant-loop-i decreases-loop-i → tie.At-loop-i invariant-loop-i decreases-loop-i
+at_loop c = c.before.before
 
-abbrev start : tie.After-tap-at invariant-loop decreases-loop → tie.Start invariant-loop decreases-loop
-start c = (at-loop c).before.before
+abbrev start : tie.After-tap_at-p invariant-loop-i decreases-loop-i → tie.Start invariant-loop-i decreases-loop-i
+start c = (at_loop c).before.before
 
 -- ---- the tap of a turn
 
 -- the tap that is read is ready
-ready : (c : tie.After-tap-at invariant-loop decreases-loop) → Ready (start c).args.t1 c.tap-at.result
-ready c = subst (Ready (start c).args.t1) (sym c.tap-at.ensures) ((start c).requires.1 (at-loop c).loop.i c.before.loop-test.true)
+ready : (c : tie.After-tap_at-p invariant-loop-i decreases-loop-i) → Ready (start c).args.t1 c.tap_at-p.result
+ready c = subst (Ready (start c).args.t1) (sym c.tap_at-p.ensures) ((start c).requires.1 (at_loop c).loop.i c.loop-i-test.true)
 
-took : (c : tie.After-tap-at invariant-loop decreases-loop) → Accepted (start c).args.t1 512
+took : (c : tie.After-tap_at-p invariant-loop-i decreases-loop-i) → Accepted (start c).args.t1 512
 took c =
     let t = (start c).args.t1 in
-    accepted t (sized t (start c).well-formed.0) (asked_of c.tap-at.result) 512 (ready c).verdict
+    accepted t (sized t (start c).well-formed.0) (asked_of c.tap_at-p.result) 512 (ready c).verdict
 
-loop-holds : tie.Need-loop-init invariant-loop decreases-loop
-loop-holds c =
-    let A = c.before.args in
+loop-i-init : tie.Need-loop-i-init invariant-loop-i decreases-loop-i
+loop-i-init c =
+    let A = c.args in
     let e = no_text A.t1 (rows_of tap_width A.n A.taps.now) in
     (search rules, omega (arith, ap length e), subst (λ (l : List ℕ). Stored A.room.now A.room.now A.at A.at l) (sym e) (nothing_stored A.room.now A.at))
 
-tap-at-requires : tie.Need-tap-at-requires invariant-loop decreases-loop
-tap-at-requires c κs = omega (arith, c.before.before.before.requires.0)
+tap_at-p-requires : tie.Need-tap_at-p-requires invariant-loop-i decreases-loop-i
+tap_at-p-requires c κs = omega (arith, c.requires.0)
 
-asked-of-requires : tie.Need-asked-of-requires invariant-loop decreases-loop
-asked-of-requires c κs = (ready c).ranged
+asked_of-asked-requires : tie.Need-asked_of-asked-requires invariant-loop-i decreases-loop-i
+asked_of-asked-requires c κs = (ready c).ranged
 
-point-of-requires : tie.Need-point-of-requires invariant-loop decreases-loop
-point-of-requires c κs = (ready c.before).ranged
+point_of-point-requires : tie.Need-point_of-point-requires invariant-loop-i decreases-loop-i
+point_of-point-requires c κs = (ready c.before).ranged
 
-strongest-requires : tie.Need-strongest-requires invariant-loop decreases-loop
-strongest-requires c κs =
-    let q = at-tap (at-point c) in
+strongest-best-requires : tie.Need-strongest-best-requires invariant-loop-i decreases-loop-i
+strongest-best-requires c κs =
+    let q = at_tap (at_point c) in
     let t = (start q).args.t1 in
     tappable t (sized t (start q).good.0) (took q).whole (took q).no_need
 
-answer-at-requires : tie.Need-answer-at-requires invariant-loop decreases-loop
-answer-at-requires c κs =
+answer_at-a-requires : tie.Need-answer_at-a-requires invariant-loop-i decreases-loop-i
+answer_at-a-requires c κs =
     let f = c.before.before.before in
-    let q = at-tap (at-point f.before) in
+    let q = at_tap (at_point f.before) in
     let z = sized (start q).args.t1 (start q).good.0 in
-    ((took q).whole.count_fits, z.order, z.depth, f.strongest.ensures.1)
+    ((took q).whole.count_fits, z.order, z.depth, f.strongest-best.ensures.1)
 
 -- what the tap finds, as the tree answers it
-told : (c : tie.After-answer-at invariant-loop decreases-loop) → let q = at-tap (at-point c.before.before.before.before.before) in
-    c.answer_at.result ≡ answered (found (start q).args.t1 (tap_of (row_at tap_width (at-loop q).loop.i (start q).args.taps.now)))
+told : (c : tie.After-answer_at-a invariant-loop-i decreases-loop-i) → let q = at_tap (at_point c.before.before.before.before.before) in
+    c.answer_at-a.result ≡ answered (found (start q).args.t1 (tap_of (row_at tap_width (at_loop q).loop.i (start q).args.taps.now)))
 told c =
     let f = c.before.before.before.before in
-    let o = at-point f.before in
-    let q = at-tap o in
+    let o = at_point f.before in
+    let q = at_tap o in
     let t = (start q).args.t1 in
     let p = q.tap-at.result in
     let e : hit_node t o.before.asked_of.result o.point_of_lem.result ≡ hit_node t (asked_of p) (point_of p) = ap₂ (hit_node t) o.before.asked_of.ensures o.point_of_lem.ensures in
-    c.answer_at.ensures
-    ∙ answer_is t (sized t (start q).good.0) (took q).whole f.strongest.result (hit_node t (asked_of p) (point_of p)) (f.strongest.ensures.0 t ∙ e) f.strongest.ensures.1
+    c.answer_at-a.ensures
+    ∙ answer_is t (sized t (start q).good.0) (took q).whole f.strongest-best.result (hit_node t (asked_of p) (point_of p)) (f.strongest-best.ensures.0 t ∙ e) f.strongest-best.ensures.1
     ∙ ap (λ (l : TapLine). answered (found t l)) q.tap-at.ensures
 
-add-put-three : tie.Need-overflow-add-put-three invariant-loop decreases-loop
-add-put-three c =
-    let q = at-tap (at-point c.before.before.before.before.before.before) in
+overflow_add-i : tie.Need-overflow_add-i invariant-loop-i decreases-loop-i
+overflow_add-i c =
+    let q = at_tap (at_point c.before.before.before.before.before.before) in
     record { fits = omega (arith, q.before.loop-test.taken, (start q).pre.0) }
 
-put-three-requires : tie.Need-put-three-requires invariant-loop decreases-loop
-put-three-requires c κs =
+put_three-next-requires : tie.Need-put_three-next-requires invariant-loop-i decreases-loop-i
+put_three-next-requires c κs =
     let a = c.before in
-    let q = at-tap (at-point a.before.before.before.before.before) in
+    let q = at_tap (at_point a.before.before.before.before.before) in
     let s = start q in
-    let l = at-loop q in
+    let l = at_loop q in
     let r = s.pre.1 l.loop.i q.before.loop-test.taken in
     let e = told a in (
       omega (arith, s.pre.0),
@@ -116,22 +116,22 @@ put-three-requires c κs =
       omega (arith, s.pre.0, s.pre.2, l.loop.inv.1, l.loop.inv.2.behind, room_kept l.loop.inv.2),
     )
 
-add-i : tie.Need-overflow-add-i invariant-loop decreases-loop
-add-i c =
-    let q = at-tap (at-point c.before.before.before.before.before.before.before.before.before) in
+overflow_add-i-in-loop-i : tie.Need-overflow_add-i-in-loop-i invariant-loop-i decreases-loop-i
+overflow_add-i-in-loop-i c =
+    let q = at_tap (at_point c.before.before.before.before.before.before.before.before.before) in
     record { fits = omega (arith, q.before.loop-test.taken, (start q).pre.0) }
 
-loop-less : tie.Need-loop-smaller invariant-loop decreases-loop
-loop-less c =
-    let q = at-tap (at-point c.before.before.before.before.before.before.before.before.before) in
+loop-i-smaller : tie.Need-loop-i-smaller invariant-loop-i decreases-loop-i
+loop-i-smaller c =
+    let q = at_tap (at_point c.before.before.before.before.before.before.before.before.before) in
     omega (arith, q.before.loop-test.taken)
 
-loop-again : tie.Need-loop-preserved invariant-loop decreases-loop
-loop-again c =
+loop-i-preserved : tie.Need-loop-i-preserved invariant-loop-i decreases-loop-i
+loop-i-preserved c =
     let w = c.before.before in
     let a = w.before.before in
-    let q = at-tap (at-point a.before.before.before.before.before) in
-    let l = at-loop q in
+    let q = at_tap (at_point a.before.before.before.before.before) in
+    let l = at_loop q in
     let s = start q in
     let A = s.args in
     let i = l.loop.i in
@@ -143,39 +143,39 @@ loop-again c =
     let f = found A.t1 (tap_of (row_at tap_width i A.taps.now)) in
     let short = short_line (i + 1) (place_hit f) (depth_hit f) (omega (arith, s.pre.0)) (omega (arith, r.place)) (omega (arith, r.depth)) in
     let b : length (old ++ line) ≡ length old + length line = length-append old line in
-    let more : Stored l.loop.room w.put_three.new.0 l.loop.next w.put_three.result line =
-    subst (λ (x : Answered). Stored l.loop.room w.put_three.new.0 l.loop.next w.put_three.result (line_of ((i + 1) ∷ x.place ∷ x.depth ∷ []))) (told a) w.put_three.ensures in (
+    let more : Stored l.loop.room w.put_three-next.new.0 l.loop.next w.put_three-next.result line =
+    subst (λ (x : Answered). Stored l.loop.room w.put_three-next.new.0 l.loop.next w.put_three-next.result (line_of ((i + 1) ∷ x.place ∷ x.depth ∷ []))) (told a) w.put_three-next.ensures in (
       omega arith,
       omega (arith, ap length e, b, short, l.loop.inv.1),
-      subst (Stored A.room.now w.put_three.new.0 A.at w.put_three.result) (sym e)
-          (then_stored A.room.now l.loop.room w.put_three.new.0 A.at l.loop.next w.put_three.result old line l.loop.inv.2 more),
+      subst (Stored A.room.now w.put_three-next.new.0 A.at w.put_three-next.result) (sym e)
+          (then_stored A.room.now l.loop.room w.put_three-next.new.0 A.at l.loop.next w.put_three-next.result old line l.loop.inv.2 more),
     )
 
-same_length : tie.Need-same-length invariant-loop decreases-loop
-same_length c = room_kept c.before.loop.invariant.2
+shape_of-room : tie.Need-shape_of-room invariant-loop-i decreases-loop-i
+shape_of-room c = room_kept c.loop-i.invariant.2
 
-returns : tie.Need-returns invariant-loop decreases-loop
+returns : tie.Need-returns invariant-loop-i decreases-loop-i
 returns c =
     let l = c.before in
-    let A = l.before.before.args in
-    let n : l.loop.i ≡ A.n = omega arith in
-    subst (Stored A.room.now l.loop.room A.at l.loop.next)
-    (ap (λ (k : ℕ). tap_text A.t1 1 (take k (rows_of tap_width A.n A.taps.now))) n ∙ all_text A.t1 A.taps.now A.n) l.loop.invariant.2
+    let A = l.args in
+    let n : l.loop-i.i ≡ A.n = omega arith in
+    subst (Stored A.room.now l.loop-i.room A.at l.loop-i.next)
+    (ap (λ (k : ℕ). tap_text A.t1 1 (take k (rows_of tap_width A.n A.taps.now))) n ∙ all_text A.t1 A.taps.now A.n) l.loop-i.invariant.2
 
-pub put-taps-spec : {M : Type 1} → statement M
-put-taps-spec =
+pub put_taps_spec : {M : Type 1} → statement M
+put_taps_spec =
     tie.close
-    (tie.spec invariant-loop decreases-loop
-    loop-holds
-    tap-at-requires
-    asked-of-requires
-    point-of-requires
-    strongest-requires
-    answer-at-requires
-    add-put-three
-    put-three-requires
-    add-i
-    loop-less
-    loop-again
-    same_length
+    (tie.spec invariant-loop-i decreases-loop-i
+    loop-i-init
+    tap_at-p-requires
+    asked_of-asked-requires
+    point_of-point-requires
+    strongest-best-requires
+    answer_at-a-requires
+    overflow_add-i
+    put_three-next-requires
+    overflow_add-i-in-loop-i
+    loop-i-smaller
+    loop-i-preserved
+    shape_of-room
     returns)

@@ -6,43 +6,43 @@ use Rattle.tree_taps.specs.Taps.{Shown}
 use Rattle.sheet_answers.proofs.taps.answer_at.Statement.{statement}
 use Rattle.sheet_answers.proofs.taps.answer_at.Tie as tie
 
-returns : tie.Need-returns
-returns c = rw (eq-eqb c.before.args.best 256 c.if1.true)
+returns-then-best-eq256 : tie.Need-returns-then-best-eq256
+returns-then-best-eq256 c = rw (eq-eqb c.args.best 256 c.if-best-eq256.true)
 
 -- the slot is shown
-shown : (c : tie.Else1) → Shown c.before.args.order.now c.before.args.n c.before.args.best
-shown c = c.before.requires.3 c.if1.false
+shown : (c : tie.Else-best-eq256) → Shown c.args.order.now c.args.n c.args.best
+shown c = c.requires.3 c.if-best-eq256.false
 
-cast-position : tie.Need-overflow-cast-position
-cast-position c = omega (arith, (shown c).0)
+overflow_cast-best : tie.Need-overflow_cast-best
+overflow_cast-best c = omega (arith, (shown c).0)
 
-position-requires : tie.Need-position-requires
-position-requires c κs = (c.before.requires.0, c.before.requires.1)
+position-at-requires : tie.Need-position-at-requires
+position-at-requires c κs = (c.requires.0, c.requires.1)
 
-mul_wide : tie.Need-overflow-mul-wide
-mul_wide c = omega (arith, c.position.ensures.1, (shown c.before).1, c.before.before.requires.0)
+offset_bounds-depth-at : tie.Need-offset_bounds-depth-at
+offset_bounds-depth-at c = omega (arith, c.position-at.ensures.1, (shown c.before).1, c.requires.0)
 
-element-copy-out-wide : tie.Need-element-copy-out-wide
-element-copy-out-wide c = omega (arith, c.position.ensures.1, (shown c.before).1, c.before.before.requires.0)
+bounds-depth-at : tie.Need-bounds-depth-at
+bounds-depth-at c = omega (arith, c.position-at.ensures.1, (shown c.before).1, c.requires.0)
 
-wide-requires : tie.Need-wide-requires
-wide-requires c κs = search rules
+wide-deep-requires : tie.Need-wide-deep-requires
+wide-deep-requires c κs = search rules
 
-add-t9 : tie.Need-overflow-add-t9
-add-t9 c = omega (arith, (shown c.before.before.before).0)
+overflow_add-result : tie.Need-overflow_add-result
+overflow_add-result c = omega (arith, (shown c.before.before.before).0)
 
-returns-2 : tie.Need-returns-2
-returns-2 c = rw (c.wide.ensures, c.before.before.position.ensures.1, ne_eqb c.before.before.before.before.args.best 256 c.before.before.before.if1.false)
+returns : tie.Need-returns
+returns c = rw (c.wide-deep.ensures, c.position-at.ensures.1, ne_eqb c.args.best 256 c.if-best-eq256.false)
 
-pub answer-at-spec : {M : Type 1} → statement M
-answer-at-spec =
+pub answer_at_spec : {M : Type 1} → statement M
+answer_at_spec =
     tie.close
     (tie.spec
-    returns
-    cast-position
-    position-requires
-    mul_wide
-    element-copy-out-wide
-    wide-requires
-    add-t9
-    returns-2)
+    returns-then-best-eq256
+    overflow_cast-best
+    position-at-requires
+    offset_bounds-depth-at
+    bounds-depth-at
+    wide-deep-requires
+    overflow_add-result
+    returns)

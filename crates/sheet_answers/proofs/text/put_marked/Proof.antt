@@ -9,30 +9,30 @@ use Rattle.sheet_answers.proofs.text.Digits.{byte_stored, then_stored, room_kept
 use Rattle.sheet_answers.proofs.text.put_marked.Statement.{statement}
 use Rattle.sheet_answers.proofs.text.put_marked.Tie as tie
 
-put-number-requires : tie.Need-put-number-requires
-put-number-requires c κs = (c.before.before.requires.0, omega (arith, c.before.before.requires.1))
+put_number-next-requires : tie.Need-put_number-next-requires
+put_number-next-requires c κs = (c.requires.0, omega (arith, c.requires.1))
 
 -- the number stands in the room, and a place is left behind it
-left : (c : tie.After-put-number) → c.put-number.result < length c.put-number.new.0
+left : (c : tie.After-put_number-next) → c.put_number-next.result < length c.put_number-next.new.0
 left c =
     let s = c.before.before.before in
-    omega (arith, c.put-number.ensures.behind, room_kept c.put-number.ensures, short s.args.n s.requires.0, s.requires.1)
+    omega (arith, c.put_number-next.ensures.behind, room_kept c.put_number-next.ensures, short s.args.n s.requires.0, s.requires.1)
 
-slice-write-room : tie.Need-slice-write-room
-slice-write-room c = left c.before.before
+bounds-room-next : tie.Need-bounds-room-next
+bounds-room-next c = left c.before.before
 
-add-result : tie.Need-overflow-add-result
-add-result c = record { fits = omega (arith, left c.before.before, room_kept c.before.before.put-number.ensures, c.before.before.before.before.before.well-formed.0.0) }
+overflow_add-result : tie.Need-overflow_add-result
+overflow_add-result c = record { fits = omega (arith, left c.before.before, room_kept c.put_number-next.ensures, c.well_formed.0.0) }
 
-same_length : tie.Need-same-length
-same_length c = length-set c.before.before.put-number.new.0 c.before.before.put-number.result c.before.before.before.before.before.args.mark ∙ c.before.before.put-number.auto.0
+shape_of-room : tie.Need-shape_of-room
+shape_of-room c = length-set c.put_number-next.new.0 c.put_number-next.result c.args.mark ∙ c.put_number-next.auto.0
 
 returns : tie.Need-returns
 returns c =
     let p = c.before.before in
-    let A = c.before.before.before.before.before.args in
-    then_stored A.room.now p.put-number.new.0 (set p.put-number.new.0 p.put-number.result A.mark) A.at p.put-number.result (p.put-number.result + 1)
-    (decimal A.n) (A.mark ∷ []) p.put-number.ensures (byte_stored p.put-number.new.0 p.put-number.result A.mark)
+    let A = c.args in
+    then_stored A.room.now p.put_number-next.new.0 (set p.put_number-next.new.0 p.put_number-next.result A.mark) A.at p.put_number-next.result (p.put_number-next.result + 1)
+    (decimal A.n) (A.mark ∷ []) p.put_number-next.ensures (byte_stored p.put_number-next.new.0 p.put_number-next.result A.mark)
 
-pub put-marked-spec : {M : Type 1} → statement M
-put-marked-spec = tie.close (tie.spec put-number-requires slice-write-room add-result same_length returns)
+pub put_marked_spec : {M : Type 1} → statement M
+put_marked_spec = tie.close (tie.spec put_number-next-requires bounds-room-next overflow_add-result shape_of-room returns)

@@ -22,10 +22,10 @@ ranged-requires c κs = search rules
 
 returns : tie.Need-returns
 unfolding clip_in_range clip_of
-returns c = rw (c.ranged.ensures, c.before.coordinate4.ensures, c.before.before.coordinate3.ensures, c.before.before.before.coordinate2.ensures, c.before.before.before.before.coordinate.ensures)
+returns c = rw (c.ranged.ensures, c.coordinate-4.ensures, c.coordinate-3.ensures, c.coordinate-2.ensures, c.coordinate.ensures)
 
-pub clip-in-range-spec : {M : Type 1} → statement M
-clip-in-range-spec =
+pub clip_in_range_spec : {M : Type 1} → statement M
+clip_in_range_spec =
     tie.close
     (tie.spec
     coordinate-requires

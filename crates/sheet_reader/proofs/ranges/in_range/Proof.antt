@@ -4,55 +4,55 @@ use borrow.Author.Rules.{rules}
 use Rattle.sheet_reader.proofs.ranges.in_range.Statement.{statement}
 use Rattle.sheet_reader.proofs.ranges.in_range.Tie as tie
 
-enum-known-kind : tie.Need-enum-known-kind
-enum-known-kind c = search rules
+enum_known-kind : tie.Need-enum_known-kind
+enum_known-kind c = search rules
 
-count-in-range-requires : tie.Need-count-in-range-requires
-count-in-range-requires c κs = search rules
+count_in_range-requires : tie.Need-count_in_range-requires
+count_in_range-requires c κs = search rules
 
-enum_told : tie.Need-enum-told
-enum_told c = search rules
+enum_told-1 : tie.Need-enum_told-1
+enum_told-1 c = search rules
 
-place-in-range-requires : tie.Need-place-in-range-requires
-place-in-range-requires c κs = search rules
+place_in_range-requires : tie.Need-place_in_range-requires
+place_in_range-requires c κs = search rules
 
-enum-told-2 : tie.Need-enum-told-2
-enum-told-2 c = search rules
+enum_told-in-Clip : tie.Need-enum_told-in-Clip
+enum_told-in-Clip c = search rules
 
-clip-in-range-requires : tie.Need-clip-in-range-requires
-clip-in-range-requires c κs = search rules
+clip_in_range-requires : tie.Need-clip_in_range-requires
+clip_in_range-requires c κs = search rules
 
-enum-told-3 : tie.Need-enum-told-3
-enum-told-3 c = search rules
+enum_told-in-Tap : tie.Need-enum_told-in-Tap
+enum_told-in-Tap c = search rules
 
-tap-in-range-requires : tie.Need-tap-in-range-requires
-tap-in-range-requires c κs = search rules
+tap_in_range-requires : tie.Need-tap_in_range-requires
+tap_in_range-requires c κs = search rules
 
-returns : tie.Need-returns
-returns c = rw c.before.before.kind.given.1 c.count-in-range.ensures
+returns-in-Count : tie.Need-returns-in-Count
+returns-in-Count c = rw c.in-Count.is c.count_in_range.ensures
 
-returns-2 : tie.Need-returns-2
-returns-2 c = rw c.before.enum_told.given.1 c.place-in-range.ensures
+returns-in-Place : tie.Need-returns-in-Place
+returns-in-Place c = rw c.in-Place.is c.place_in_range.ensures
 
-returns-3 : tie.Need-returns-3
-returns-3 c = rw c.before.enum-told2.given.1 c.clip-in-range.ensures
+returns-in-Clip : tie.Need-returns-in-Clip
+returns-in-Clip c = rw c.in-Clip.is c.clip_in_range.ensures
 
-returns-4 : tie.Need-returns-4
-returns-4 c = rw c.before.enum-told3.given.1 c.tap-in-range.ensures
+returns-in-Tap : tie.Need-returns-in-Tap
+returns-in-Tap c = rw c.in-Tap.is c.tap_in_range.ensures
 
-pub in-range-spec : {M : Type 1} → statement M
-in-range-spec =
+pub in_range_spec : {M : Type 1} → statement M
+in_range_spec =
     tie.close
     (tie.spec
-    enum-known-kind
-    count-in-range-requires
-    enum_told
-    place-in-range-requires
-    enum-told-2
-    clip-in-range-requires
-    enum-told-3
-    tap-in-range-requires
-    returns
-    returns-2
-    returns-3
-    returns-4)
+    enum_known-kind
+    count_in_range-requires
+    enum_told-1
+    place_in_range-requires
+    enum_told-in-Clip
+    clip_in_range-requires
+    enum_told-in-Tap
+    tap_in_range-requires
+    returns-in-Count
+    returns-in-Place
+    returns-in-Clip
+    returns-in-Tap)

@@ -37,10 +37,10 @@ ranged-requires-4 c κs = search rules
 
 returns : tie.Need-returns
 unfolding place_in_range place_of
-returns c = rw (c.ranged4.ensures, c.before.ranged3.ensures, c.before.before.ranged2.ensures, c.before.before.before.coordinate6.ensures, c.before.before.before.before.coordinate5.ensures, c.before.before.before.before.before.coordinate4.ensures, c.before.before.before.before.before.before.coordinate3.ensures, c.before.before.before.before.before.before.before.coordinate2.ensures, c.before.before.before.before.before.before.before.before.coordinate.ensures, c.before.before.before.before.before.before.before.before.before.ranged.ensures)
+returns c = rw (c.ranged-4.ensures, c.ranged-3.ensures, c.ranged-2.ensures, c.coordinate-6.ensures, c.coordinate-5.ensures, c.coordinate-4.ensures, c.coordinate-3.ensures, c.coordinate-2.ensures, c.coordinate.ensures, c.ranged.ensures)
 
-pub place-in-range-spec : {M : Type 1} → statement M
-place-in-range-spec =
+pub place_in_range_spec : {M : Type 1} → statement M
+place_in_range_spec =
     tie.close
     (tie.spec
     ranged-requires

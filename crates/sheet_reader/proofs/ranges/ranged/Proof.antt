@@ -9,19 +9,19 @@ use borrow.Author.Rules.{rules}
 use Rattle.sheet_reader.proofs.ranges.ranged.Statement.{statement}
 use Rattle.sheet_reader.proofs.ranges.ranged.Tie as tie
 
-mul-z : tie.Need-mul-z
-mul-z c = search rules
+offset_bounds-row-k : tie.Need-offset_bounds-row-k
+offset_bounds-row-k c = search rules
 
-element-copy-out-z : tie.Need-element-copy-out-z
-element-copy-out-z c = search rules
+bounds-row-k : tie.Need-bounds-row-k
+bounds-row-k c = search rules
 
 within-requires : tie.Need-within-requires
 within-requires c κs = search rules
 
 returns : tie.Need-returns
-returns c = let z = get_or c.before.before.args.row.now c.before.before.args.k (pos 0) in
+returns c = let z = get_or c.args.row.now c.args.k (pos 0) in
     let f : SFits w64 z = search rules in
-    rw (to_z-of_z w64 c.before.before.args.low c.before.before.fits.low, to_z-of_z w64 c.before.before.args.high c.before.before.fits.high, to_z-of_z w64 z f) at c.within.ensures
+    rw (to_z-of_z w64 c.args.low c.fits.low, to_z-of_z w64 c.args.high c.fits.high, to_z-of_z w64 z f) at c.within.ensures
 
-pub ranged-spec : {M : Type 1} → statement M
-ranged-spec = tie.close (tie.spec mul-z element-copy-out-z within-requires returns)
+pub ranged_spec : {M : Type 1} → statement M
+ranged_spec = tie.close (tie.spec offset_bounds-row-k bounds-row-k within-requires returns)

@@ -16,8 +16,8 @@ ranged-requires c κs = search rules
 
 returns : tie.Need-returns
 unfolding tap_in_range tap_of
-returns c = rw (c.ranged.ensures, c.before.coordinate2.ensures, c.before.before.coordinate.ensures)
+returns c = rw (c.ranged.ensures, c.coordinate-2.ensures, c.coordinate.ensures)
 
-pub tap-in-range-spec : {M : Type 1} → statement M
-tap-in-range-spec =
+pub tap_in_range_spec : {M : Type 1} → statement M
+tap_in_range_spec =
     tie.close (tie.spec coordinate-requires coordinate-requires-2 ranged-requires returns)

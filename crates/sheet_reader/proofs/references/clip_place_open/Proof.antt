@@ -13,17 +13,17 @@ use borrow.Author.Rules.{rules}
 use Rattle.sheet_reader.proofs.references.clip_place_open.Statement.{statement}
 use Rattle.sheet_reader.proofs.references.clip_place_open.Tie as tie
 
-element-copy-out-k : tie.Need-element-copy-out-k
-element-copy-out-k c = search rules
+bounds-row-0 : tie.Need-bounds-row-0
+bounds-row-0 c = search rules
 
-cast-ranged : tie.Need-overflow-cast-ranged
-cast-ranged c = search rules
+overflow_cast-places : tie.Need-overflow_cast-places
+overflow_cast-places c = search rules
 
 ranged-requires : tie.Need-ranged-requires
 ranged-requires c κs = search rules
 
-clipped-before-requires : tie.Need-clipped-before-requires
-clipped-before-requires c κs = search rules
+clipped_before-requires : tie.Need-clipped_before-requires
+clipped_before-requires c κs = search rules
 
 returns : tie.Need-returns
 unfolding clip_place_open clip_of
@@ -31,11 +31,11 @@ returns c = let s = c.before.before.before in
     let z = get_or s.args.row.now 0 (pos 0) in
     let f : s.args.places < 9223372036854775808 = search rules in
     let g : SFits w64 z = search rules in
-    let a : c.before.ranged.result ≡ within (pos 1) (pos s.args.places) z = rw (to_z_pos w64 s.args.places f) at c.before.ranged.ensures in
-    let b : c.clipped-before.result ≡ clipped_before (rows_of clip_width s.args.n s.args.table.now) z = rw (to_z-of_z w64 z g) at c.clipped-before.ensures in
+    let a : c.ranged.result ≡ within (pos 1) (pos s.args.places) z = rw (to_z_pos w64 s.args.places f) at c.ranged.ensures in
+    let b : c.clipped_before.result ≡ clipped_before (rows_of clip_width s.args.n s.args.table.now) z = rw (to_z-of_z w64 z g) at c.clipped_before.ensures in
     rw (a, b)
 
-pub clip-place-open-spec : {M : Type 1} → statement M
-clip-place-open-spec =
+pub clip_place_open_spec : {M : Type 1} → statement M
+clip_place_open_spec =
     tie.close
-    (tie.spec element-copy-out-k cast-ranged ranged-requires clipped-before-requires returns)
+    (tie.spec bounds-row-0 overflow_cast-places ranged-requires clipped_before-requires returns)

@@ -15,72 +15,72 @@ use borrow.Author.Rules.{rules}
 use Rattle.sheet_reader.proofs.references.clipped_before.Statement.{statement}
 use Rattle.sheet_reader.proofs.references.clipped_before.Tie as tie
 
-abbrev invariant-loop : tie.invariant-loop
-invariant-loop table n k i₀ i = (i ≤ n) × (clipped_from table n i (to_z w64 k) ≡ clipped_before (rows_of clip_width n table) (to_z w64 k))
+abbrev invariant-loop-i : tie.invariant-loop-i
+invariant-loop-i table n k i₀ i = (i ≤ n) × (clipped_from table n i (to_z w64 k) ≡ clipped_before (rows_of clip_width n table) (to_z w64 k))
 
-abbrev decreases-loop : tie.decreases-loop
-decreases-loop table n k i₀ i = n - i
+abbrev decreases-loop-i : tie.decreases-loop-i
+decreases-loop-i table n k i₀ i = n - i
 
 -- what the invariant and `equal` say of k itself, and not of its bits
-inv-here : (c : tie.At-loop invariant-loop decreases-loop) → clipped_from c.before.args.table.now c.before.args.n c.loop.i c.before.args.k ≡ clipped_before (rows_of clip_width c.before.args.n c.before.args.table.now) c.before.args.k
-inv-here c = rw (to_z-of_z w64 c.before.args.k c.before.ranges.k) at c.loop.invariant.1
+inv_here : (c : tie.At-loop-i invariant-loop-i decreases-loop-i) → clipped_from c.args.table.now c.args.n c.loop-i.i c.args.k ≡ clipped_before (rows_of clip_width c.args.n c.args.table.now) c.args.k
+inv_here c = rw (to_z-of_z w64 c.args.k c.ranges.k) at c.loop-i.invariant.1
 
-abbrev number : (c : tie.After-equal invariant-loop decreases-loop) → ℤ
-number c = get_or c.before.before.before.before.args.table.now (c.before.before.before.loop.i * clip_width) (pos 0)
+abbrev number : (c : tie.After-equal invariant-loop-i decreases-loop-i) → ℤ
+number c = get_or c.args.table.now (c.loop-i.i * clip_width) (pos 0)
 
-equal-here : (c : tie.After-equal invariant-loop decreases-loop) → c.equal.result ≡ equal c.before.before.before.before.args.k (number c)
-equal-here c =
+equal_here : (c : tie.After-equal invariant-loop-i decreases-loop-i) → c.equal.result ≡ equal c.args.k (number c)
+equal_here c =
     let f : SFits w64 (number c) = search rules in
     let s = c.before.before.before.before in
     rw (to_z-of_z w64 s.args.k s.ranges.k, to_z-of_z w64 (number c) f) at c.equal.ensures
 
-loop-holds : tie.Need-loop-init invariant-loop decreases-loop
-loop-holds c = (omega arith, from_first c.args.table.now c.args.n _)
+loop-i-init : tie.Need-loop-i-init invariant-loop-i decreases-loop-i
+loop-i-init c = (omega arith, from_first c.args.table.now c.args.n _)
 
-mul-p : tie.Need-overflow-mul-p invariant-loop decreases-loop
-mul-p c = search rules
+overflow_mul-p : tie.Need-overflow_mul-p invariant-loop-i decreases-loop-i
+overflow_mul-p c = search rules
 
-mul-p-2 : tie.Need-overflow-mul-p-2 invariant-loop decreases-loop
-mul-p-2 c = search rules
+offset_bounds-table-i : tie.Need-offset_bounds-table-i invariant-loop-i decreases-loop-i
+offset_bounds-table-i c = search rules
 
-shared-slice-copy-out-p : tie.Need-shared-slice-copy-out-p invariant-loop decreases-loop
-shared-slice-copy-out-p c = search rules
+bounds-table-i : tie.Need-bounds-table-i invariant-loop-i decreases-loop-i
+bounds-table-i c = search rules
 
-equal-requires : tie.Need-equal-requires invariant-loop decreases-loop
+equal-requires : tie.Need-equal-requires invariant-loop-i decreases-loop-i
 equal-requires c κs = search rules
 
-returns : tie.Need-returns invariant-loop decreases-loop
-returns c = this_one c.before.before.before.before.before.args.table.now c.before.before.before.before.before.args.n c.before.before.before.before.loop.i c.before.before.before.before.before.args.k c.before.equal.result c.before.before.before.loop-test.true (equal-here c.before) c.if1.true ∙ inv-here c.before.before.before.before
+returns-then-equal : tie.Need-returns-then-equal invariant-loop-i decreases-loop-i
+returns-then-equal c = this_one c.args.table.now c.args.n c.loop-i.i c.args.k c.equal.result c.loop-i-test.true (equal_here c.before) c.if-equal.true ∙ inv_here c.before.before.before.before
 
-add-i : tie.Need-overflow-add-i invariant-loop decreases-loop
-add-i c = search rules
+overflow_add-i : tie.Need-overflow_add-i invariant-loop-i decreases-loop-i
+overflow_add-i c = search rules
 
-loop-less : tie.Need-loop-smaller invariant-loop decreases-loop
-loop-less c = search rules
+loop-i-smaller : tie.Need-loop-i-smaller invariant-loop-i decreases-loop-i
+loop-i-smaller c = search rules
 
-loop-again : tie.Need-loop-preserved invariant-loop decreases-loop
-loop-again c = (
+loop-i-preserved : tie.Need-loop-i-preserved invariant-loop-i decreases-loop-i
+loop-i-preserved c = (
   omega arith,
-  rw (to_z-of_z w64 c.before.before.before.before.before.args.k c.before.before.before.before.before.ranges.k)
-      (not_this c.before.before.before.before.before.args.table.now c.before.before.before.before.before.args.n c.before.before.before.before.loop.i c.before.before.before.before.before.args.k c.before.equal.result c.before.before.before.loop-test.true (equal-here c.before) c.if1.false ∙ inv-here c.before.before.before.before),
+  rw (to_z-of_z w64 c.args.k c.ranges.k)
+      (not_this c.args.table.now c.args.n c.loop-i.i c.args.k c.equal.result c.loop-i-test.true (equal_here c.before) c.if-equal.false ∙ inv_here c.before.before.before.before),
 )
 
-returns-2 : tie.Need-returns-2 invariant-loop decreases-loop
-returns-2 c = none_left c.before.before.args.table.now c.before.before.args.n c.before.loop.i c.before.before.args.k c.loop-test.false ∙ inv-here c.before
+returns : tie.Need-returns invariant-loop-i decreases-loop-i
+returns c = none_left c.args.table.now c.args.n c.loop-i.i c.args.k c.loop-i-test.false ∙ inv_here c.before
 
-pub clipped-before-spec : {M : Type 1} → statement M
-clipped-before-spec =
+pub clipped_before_spec : {M : Type 1} → statement M
+clipped_before_spec =
     tie.close
     (tie.spec
-    invariant-loop
-    decreases-loop
-    loop-holds
-    mul-p
-    mul-p-2
-    shared-slice-copy-out-p
+    invariant-loop-i
+    decreases-loop-i
+    loop-i-init
+    overflow_mul-p
+    offset_bounds-table-i
+    bounds-table-i
     equal-requires
-    returns
-    add-i
-    loop-less
-    loop-again
-    returns-2)
+    returns-then-equal
+    overflow_add-i
+    loop-i-smaller
+    loop-i-preserved
+    returns)

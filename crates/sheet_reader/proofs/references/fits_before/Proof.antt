@@ -6,48 +6,48 @@ use borrow.Author.Rules.{rules}
 use Rattle.sheet_reader.proofs.references.fits_before.Statement.{statement}
 use Rattle.sheet_reader.proofs.references.fits_before.Tie as tie
 
-enum_told : tie.Need-enum-told
-enum_told c = search rules
+enum_told-1 : tie.Need-enum_told-1
+enum_told-1 c = search rules
 
-enum-told-2 : tie.Need-enum-told-2
-enum-told-2 c = search rules
+enum_told-in-Place : tie.Need-enum_told-in-Place
+enum_told-in-Place c = search rules
 
-parent-earlier-requires : tie.Need-parent-earlier-requires
-parent-earlier-requires c κs = search rules
+parent_earlier-requires : tie.Need-parent_earlier-requires
+parent_earlier-requires c κs = search rules
 
-enum-known-kind : tie.Need-enum-known-kind
-enum-known-kind c = search rules
+enum_known-kind : tie.Need-enum_known-kind
+enum_known-kind c = search rules
 
-clip-place-open-requires : tie.Need-clip-place-open-requires
-clip-place-open-requires c κs = (c.before.before.before.requires.0, rw c.before.kind.given.1 at c.before.before.before.requires.1)
+clip_place_open-requires : tie.Need-clip_place_open-requires
+clip_place_open-requires c κs = (c.requires.0, rw c.in-Clip.is at c.requires.1)
 
-enum-told-3 : tie.Need-enum-told-3
-enum-told-3 c = search rules
+enum_told-in-Tap : tie.Need-enum_told-in-Tap
+enum_told-in-Tap c = search rules
 
-returns : tie.Need-returns
-returns c = rw c.enum_told.given.1
+returns-in-Count : tie.Need-returns-in-Count
+returns-in-Count c = rw c.in-Count.is
 
-returns-2 : tie.Need-returns-2
+returns-in-Place : tie.Need-returns-in-Place
 unfolding parent_earlier place_of
-returns-2 c = rw (c.before.enum-told2.given.1, rows_length place_width c.before.before.before.args.n c.before.before.before.args.table.now) c.parent-earlier.ensures
+returns-in-Place c = rw (c.in-Place.is, rows_length place_width c.args.n c.args.table.now) c.parent_earlier.ensures
 
-returns-3 : tie.Need-returns-3
-returns-3 c = rw c.before.before.kind.given.1 c.clip-place-open.ensures
+returns-in-Clip : tie.Need-returns-in-Clip
+returns-in-Clip c = rw c.in-Clip.is c.clip_place_open.ensures
 
-returns-4 : tie.Need-returns-4
-returns-4 c = rw c.enum-told3.given.1
+returns-in-Tap : tie.Need-returns-in-Tap
+returns-in-Tap c = rw c.in-Tap.is
 
-pub fits-before-spec : {M : Type 1} → statement M
-fits-before-spec =
+pub fits_before_spec : {M : Type 1} → statement M
+fits_before_spec =
     tie.close
     (tie.spec
-    enum_told
-    enum-told-2
-    parent-earlier-requires
-    enum-known-kind
-    clip-place-open-requires
-    enum-told-3
-    returns
-    returns-2
-    returns-3
-    returns-4)
+    enum_told-1
+    enum_told-in-Place
+    parent_earlier-requires
+    enum_known-kind
+    clip_place_open-requires
+    enum_told-in-Tap
+    returns-in-Count
+    returns-in-Place
+    returns-in-Clip
+    returns-in-Tap)

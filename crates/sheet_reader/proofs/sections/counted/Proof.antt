@@ -11,51 +11,51 @@ use borrow.Author.Rules.{rules}
 use Rattle.sheet_reader.proofs.sections.counted.Statement.{statement}
 use Rattle.sheet_reader.proofs.sections.counted.Tie as tie
 
-read-count-requires : tie.Need-read-count-requires
-read-count-requires c κs = search rules
+read_count-requires : tie.Need-read_count-requires
+read_count-requires c κs = search rules
 
-enum-known-why : tie.Need-enum-known-why
-enum-known-why c = search rules
+enum_known-why : tie.Need-enum_known-why
+enum_known-why c = search rules
 
-enum-known-n : tie.Need-enum-known-n
-enum-known-n c = search rules
+enum_known-n : tie.Need-enum_known-n
+enum_known-n c = search rules
 
-add-read-section : tie.Need-overflow-add-read-section
-add-read-section c = search rules
+overflow_add-line : tie.Need-overflow_add-line
+overflow_add-line c = search rules
 
-read-section-requires : tie.Need-read-section-requires
-read-section-requires c κs = let s = c.before.before.before.before.before.before in
-    let n = c.before.before.n.given.0.0 in
-    let b : n ≤ s.args.most = rw c.before.before.n.given.1 at c.before.before.before.before.read_count.ensures.1 in
+read_section-requires : tie.Need-read_section-requires
+read_section-requires c κs = let s = c.before.before.before.before in
+    let n = c.in-Ended.n in
+    let b : n ≤ s.args.most = rw c.in-Ended.is at c.read_count.ensures.1 in
     (omega (arith, s.requires.0), omega (arith, s.requires.1), s.requires.2, room n s.args.most (rule_of s.args.kind).width (length s.args.table.now) b s.requires.3)
 
-returns : tie.Need-returns
-returns c = let s = c.before.before.before.before.before in (
-  count_stops (rule_of s.args.kind) s.args.most s.args.line (drop s.args.at s.args.s.now) (number_of c.before.why.given.0.0) c.before.why.given.0.1.0 (rw c.before.why.given.1 at c.before.before.before.read_count.ensures.0),
+returns-in-Stopped : tie.Need-returns-in-Stopped
+returns-in-Stopped c = let s = c.before.before.before in (
+  count_stops (rule_of s.args.kind) s.args.most s.args.line (drop s.args.at s.args.s.now) (number_of c.in-Stopped.why) c.in-Stopped.l (rw c.in-Stopped.is at c.read_count.ensures.0),
   omega arith,
 )
 
-same_length : tie.Need-same-length
-same_length c = search rules
+shape_of-table : tie.Need-shape_of-table
+shape_of-table c = search rules
 
-returns-2 : tie.Need-returns-2
-returns-2 c = let s = c.before.before.before.before.before.before.before.before in
-    let n = c.before.before.before.before.n.given.0.0 in
-    let next = c.before.before.before.before.n.given.0.1.0 in
-    let b : n ≤ s.args.most = rw c.before.before.before.before.n.given.1 at c.before.before.before.before.before.before.read_count.ensures.1 in (
-      c.before.read-section.ensures.0 ∙ count_goes (rule_of s.args.kind) s.args.most s.args.line (drop s.args.at s.args.s.now) (drop next s.args.s.now) n (rw c.before.before.before.before.n.given.1 at c.before.before.before.before.before.before.read_count.ensures.0),
-      omega (arith, c.before.read-section.ensures.1),
+returns-in-Ended : tie.Need-returns-in-Ended
+returns-in-Ended c = let s = c.before.before.before.before.before.before in
+    let n = c.in-Ended.n in
+    let next = c.in-Ended.next in
+    let b : n ≤ s.args.most = rw c.in-Ended.is at c.read_count.ensures.1 in (
+      c.read_section.ensures.0 ∙ count_goes (rule_of s.args.kind) s.args.most s.args.line (drop s.args.at s.args.s.now) (drop next s.args.s.now) n (rw c.in-Ended.is at c.read_count.ensures.0),
+      omega (arith, c.read_section.ensures.1),
     )
 
 pub counted_spec : {M : Type 1} → statement M
 counted_spec =
     tie.close
     (tie.spec
-    read-count-requires
-    enum-known-why
-    enum-known-n
-    add-read-section
-    read-section-requires
-    returns
-    same_length
-    returns-2)
+    read_count-requires
+    enum_known-why
+    enum_known-n
+    overflow_add-line
+    read_section-requires
+    returns-in-Stopped
+    shape_of-table
+    returns-in-Ended)

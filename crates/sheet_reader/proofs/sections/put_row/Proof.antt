@@ -14,70 +14,70 @@ use borrow.Author.Rules.{rules}
 use Rattle.sheet_reader.proofs.sections.put_row.Statement.{statement}
 use Rattle.sheet_reader.proofs.sections.put_row.Tie as tie
 
-abbrev invariant-loop : tie.invariant-loop
-invariant-loop table₀ at width row j₀ table j = (j ≤ width) × (length table ≡ length table₀) × (table ≡ paste table₀ at row j)
+abbrev invariant-loop-j : tie.invariant-loop-j
+invariant-loop-j table₀ at width row j₀ table j = (j ≤ width) × (length table ≡ length table₀) × (table ≡ paste table₀ at row j)
 
-abbrev decreases-loop : tie.decreases-loop
-decreases-loop table₀ at width row j₀ table j = width - j
+abbrev decreases-loop-j : tie.decreases-loop-j
+decreases-loop-j table₀ at width row j₀ table j = width - j
 
-loop-holds : tie.Need-loop-init invariant-loop decreases-loop
-loop-holds c = (omega arith, refl, paste-zero c.args.table.now c.args.at c.args.row.now)
+loop-j-init : tie.Need-loop-j-init invariant-loop-j decreases-loop-j
+loop-j-init c = (omega arith, refl, paste-zero c.args.table.now c.args.at c.args.row.now)
 
-mul-z : tie.Need-overflow-mul-z invariant-loop decreases-loop
-mul-z c = search rules
+offset_bounds-row-j : tie.Need-offset_bounds-row-j invariant-loop-j decreases-loop-j
+offset_bounds-row-j c = search rules
 
-element-copy-out-z : tie.Need-element-copy-out-z invariant-loop decreases-loop
-element-copy-out-z c = search rules
+bounds-row-j : tie.Need-bounds-row-j invariant-loop-j decreases-loop-j
+bounds-row-j c = search rules
 
-add-z : tie.Need-overflow-add-z invariant-loop decreases-loop
-add-z c = search rules
+overflow_add-z : tie.Need-overflow_add-z invariant-loop-j decreases-loop-j
+overflow_add-z c = search rules
 
-mul-z-2 : tie.Need-overflow-mul-z-2 invariant-loop decreases-loop
-mul-z-2 c = search rules
+offset_bounds-table-at : tie.Need-offset_bounds-table-at invariant-loop-j decreases-loop-j
+offset_bounds-table-at c = search rules
 
-slice-set-from-z : tie.Need-slice-set-from-z invariant-loop decreases-loop
-slice-set-from-z c = search rules
+bounds-table-at : tie.Need-bounds-table-at invariant-loop-j decreases-loop-j
+bounds-table-at c = search rules
 
-add-j : tie.Need-overflow-add-j invariant-loop decreases-loop
-add-j c = search rules
+overflow_add-j : tie.Need-overflow_add-j invariant-loop-j decreases-loop-j
+overflow_add-j c = search rules
 
-loop-less : tie.Need-loop-smaller invariant-loop decreases-loop
-loop-less c = search rules
+loop-j-smaller : tie.Need-loop-j-smaller invariant-loop-j decreases-loop-j
+loop-j-smaller c = search rules
 
-loop-again : tie.Need-loop-preserved invariant-loop decreases-loop
-loop-again c = let s = c.before.before.before in
-    let j = c.before.before.loop.j in
+loop-j-preserved : tie.Need-loop-j-preserved invariant-loop-j decreases-loop-j
+loop-j-preserved c = let s = c.before.before.before in
+    let j = c.loop-j.j in
     let z = get_or s.args.row.now j (pos 0) in
     let g : SFits w64 z = search rules in
     let a : s.args.at + j < length s.args.table.now = omega (arith, s.requires.2) in
     let b : j < length s.args.row.now = omega (arith, s.requires.0) in
     rw (to_z-of_z w64 z g) (
       omega arith,
-      length-set c.before.before.loop.table (s.args.at + j) z ∙ c.before.before.loop.invariant.1,
-      ap (λ t. set t (s.args.at + j) z) c.before.before.loop.invariant.2 ∙ rw add-one (paste-suc s.args.table.now s.args.at s.args.row.now j (pos 0) a b),
+      length-set c.loop-j.table (s.args.at + j) z ∙ c.loop-j.invariant.1,
+      ap (λ t. set t (s.args.at + j) z) c.loop-j.invariant.2 ∙ rw add-one (paste-suc s.args.table.now s.args.at s.args.row.now j (pos 0) a b),
     )
 
-same_length : tie.Need-same-length invariant-loop decreases-loop
-same_length c = c.before.loop.invariant.1
+shape_of-table : tie.Need-shape_of-table invariant-loop-j decreases-loop-j
+shape_of-table c = c.loop-j.invariant.1
 
-returns : tie.Need-returns invariant-loop decreases-loop
-returns c = let e : c.before.loop.j ≡ c.before.before.args.width = omega arith in
-    c.before.loop.invariant.2 ∙ ap (paste c.before.before.args.table.now c.before.before.args.at c.before.before.args.row.now) e
+returns : tie.Need-returns invariant-loop-j decreases-loop-j
+returns c = let e : c.loop-j.j ≡ c.args.width = omega arith in
+    c.loop-j.invariant.2 ∙ ap (paste c.args.table.now c.args.at c.args.row.now) e
 
-pub put-row-spec : {M : Type 1} → statement M
-put-row-spec =
+pub put_row_spec : {M : Type 1} → statement M
+put_row_spec =
     tie.close
     (tie.spec
-    invariant-loop
-    decreases-loop
-    loop-holds
-    mul-z
-    element-copy-out-z
-    add-z
-    mul-z-2
-    slice-set-from-z
-    add-j
-    loop-less
-    loop-again
-    same_length
+    invariant-loop-j
+    decreases-loop-j
+    loop-j-init
+    offset_bounds-row-j
+    bounds-row-j
+    overflow_add-z
+    offset_bounds-table-at
+    bounds-table-at
+    overflow_add-j
+    loop-j-smaller
+    loop-j-preserved
+    shape_of-table
     returns)

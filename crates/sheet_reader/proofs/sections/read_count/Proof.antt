@@ -13,50 +13,50 @@ use borrow.Author.Rules.{rules}
 use Rattle.sheet_reader.proofs.sections.read_count.Statement.{statement}
 use Rattle.sheet_reader.proofs.sections.read_count.Tie as tie
 
-fields-at-requires : tie.Need-fields-at-requires
-fields-at-requires c κs = search rules
+fields_at-f-requires : tie.Need-fields_at-f-requires
+fields_at-f-requires c κs = search rules
 
-returns : tie.Need-returns
-returns c = (count_21 c.before.before.before.before.args.most c.before.before.before.before.args.line c.before.before.before.before.args.at c.before.before.before.before.args.s.now c.before.before.before.before.requires c.before.before.fields_at.result c.before.before.fields_at.ensures.0 c.if1.true, omega arith)
+returns-then-not-f : tie.Need-returns-then-not-f
+returns-then-not-f c = (count_21 c.args.most c.args.line c.args.at c.args.s.now c.requires c.fields_at-f.result c.fields_at-f.ensures.0 c.if-not-f.true, omega arith)
 
-count-in-range-requires : tie.Need-count-in-range-requires
-count-in-range-requires c κs = search rules
+count_in_range-requires : tie.Need-count_in_range-requires
+count_in_range-requires c κs = search rules
 
-returns-2 : tie.Need-returns-2
-returns-2 c = let s = c.before.before.before.before.before.before.before.before in (
-  count_22 s.args.most s.args.line s.args.at s.args.s.now s.requires c.before.before.before.before.before.before.fields_at.result c.before.before.before.before.before.before.fields_at.ensures.0 c.before.before.before.before.if1.false c.before.count-in-range.result c.before.count-in-range.ensures c.if2.true,
+returns-then-not-count_in_range : tie.Need-returns-then-not-count_in_range
+returns-then-not-count_in_range c = let s = c.before.before.before.before.before.before.before.before in (
+  count_22 s.args.most s.args.line s.args.at s.args.s.now s.requires c.fields_at-f.result c.fields_at-f.ensures.0 c.if-not-f.false c.count_in_range.result c.count_in_range.ensures c.if-not-count_in_range.true,
   omega arith,
 )
 
-array-copy-out-z : tie.Need-array-copy-out-z
-array-copy-out-z c = search rules
+bounds-row-0 : tie.Need-bounds-row-0
+bounds-row-0 c = search rules
 
-cast-t16 : tie.Need-overflow-cast-t16
-cast-t16 c = let s = c.before.before.before.before.before.before.before.before.before in
-    let z = get_or c.before.before.before.before.before.before.before.fields_at.result.row 0 (pos 0) in
+overflow_cast-result : tie.Need-overflow_cast-result
+overflow_cast-result c = let s = c.before.before.before.before.before.before.before.before.before in
+    let z = get_or c.fields_at-f.result.row 0 (pos 0) in
     let g : SFits w64 z = search rules in
     rw (to_z-of_z w64 z g) (castable s.args.most z
-    (in_bounds s.args.most s.args.line s.args.at s.args.s.now s.requires c.before.before.before.before.before.before.before.fields_at.result c.before.before.before.before.before.before.before.fields_at.ensures.0 c.before.before.before.before.before.if1.false c.before.before.count-in-range.result c.before.before.count-in-range.ensures c.before.if2.false) s.requires)
+    (in_bounds s.args.most s.args.line s.args.at s.args.s.now s.requires c.fields_at-f.result c.fields_at-f.ensures.0 c.if-not-f.false c.count_in_range.result c.count_in_range.ensures c.if-not-count_in_range.false) s.requires)
 
-returns-3 : tie.Need-returns-3
-returns-3 c = let s = c.before.before.before.before.before.before.before.before.before in
-    let f = c.before.before.before.before.before.before.before.fields_at.result in
+returns : tie.Need-returns
+returns c = let s = c.before.before.before.before.before.before.before.before.before in
+    let f = c.fields_at-f.result in
     let z = get_or f.row 0 (pos 0) in
     let g : SFits w64 z = search rules in
     let l : length f.row ≡ line_width = search rules in
     rw (to_z-of_z w64 z g) (
-      count_read s.args.most s.args.line s.args.at s.args.s.now s.requires f c.before.before.before.before.before.before.before.fields_at.ensures.0 c.before.before.before.before.before.if1.false c.before.before.count-in-range.result c.before.before.count-in-range.ensures c.before.if2.false l,
-      few s.args.most z (in_bounds s.args.most s.args.line s.args.at s.args.s.now s.requires f c.before.before.before.before.before.before.before.fields_at.ensures.0 c.before.before.before.before.before.if1.false c.before.before.count-in-range.result c.before.before.count-in-range.ensures c.before.if2.false),
+      count_read s.args.most s.args.line s.args.at s.args.s.now s.requires f c.fields_at-f.ensures.0 c.if-not-f.false c.count_in_range.result c.count_in_range.ensures c.if-not-count_in_range.false l,
+      few s.args.most z (in_bounds s.args.most s.args.line s.args.at s.args.s.now s.requires f c.fields_at-f.ensures.0 c.if-not-f.false c.count_in_range.result c.count_in_range.ensures c.if-not-count_in_range.false),
     )
 
-pub read-count-spec : {M : Type 1} → statement M
-read-count-spec =
+pub read_count_spec : {M : Type 1} → statement M
+read_count_spec =
     tie.close
     (tie.spec
-    fields-at-requires
-    returns
-    count-in-range-requires
-    returns-2
-    array-copy-out-z
-    cast-t16
-    returns-3)
+    fields_at-f-requires
+    returns-then-not-f
+    count_in_range-requires
+    returns-then-not-count_in_range
+    bounds-row-0
+    overflow_cast-result
+    returns)

@@ -12,128 +12,128 @@ use borrow.Author.Rules.{rules}
 use Rattle.sheet_reader.proofs.sections.read_section.Statement.{statement}
 use Rattle.sheet_reader.proofs.sections.read_section.Tie as tie
 
-abbrev invariant-loop : tie.invariant-loop
-invariant-loop s from kind n line table₀ width at₀ i₀ table at i = Inv kind n line from s table₀ table at i
+abbrev invariant-loop-i : tie.invariant-loop-i
+invariant-loop-i s from kind n line table₀ width at₀ i₀ table at i = Inv kind n line from s table₀ table at i
 
-abbrev decreases-loop : tie.decreases-loop
-decreases-loop s from kind n line table₀ width at₀ i₀ table at i = n - i
+abbrev decreases-loop-i : tie.decreases-loop-i
+decreases-loop-i s from kind n line table₀ width at₀ i₀ table at i = n - i
 
-width-of-requires : tie.Need-width-of-requires invariant-loop decreases-loop
-width-of-requires c κs = search rules
+width_of-width-requires : tie.Need-width_of-width-requires invariant-loop-i decreases-loop-i
+width_of-width-requires c κs = search rules
 
-loop-holds : tie.Need-loop-init invariant-loop decreases-loop
-loop-holds c = begin c.before.before.args.kind c.before.before.args.n c.before.before.args.line c.before.before.args.from c.before.before.args.s.now c.before.before.args.table.now
+loop-i-init : tie.Need-loop-i-init invariant-loop-i decreases-loop-i
+loop-i-init c = begin c.args.kind c.args.n c.args.line c.args.from c.args.s.now c.args.table.now
 
-fields-at-requires : tie.Need-fields-at-requires invariant-loop decreases-loop
-fields-at-requires c κs = search rules
+fields_at-f-requires : tie.Need-fields_at-f-requires invariant-loop-i decreases-loop-i
+fields_at-f-requires c κs = search rules
 
-add-t14 : tie.Need-overflow-add-t14 invariant-loop decreases-loop
-add-t14 c = search rules
+overflow_add-result : tie.Need-overflow_add-result invariant-loop-i decreases-loop-i
+overflow_add-result c = search rules
 
-same_length : tie.Need-same-length invariant-loop decreases-loop
-same_length c = c.before.before.before.before.loop.invariant.long
+shape_of-table-then-not-f : tie.Need-shape_of-table-then-not-f invariant-loop-i decreases-loop-i
+shape_of-table-then-not-f c = c.loop-i.invariant.long
 
-returns : tie.Need-returns invariant-loop decreases-loop
-returns c = let a = c.before.before.before.before.before.before.before.args in (
-  turn_21 a.kind a.n a.line a.from a.s.now a.table.now c.before.before.before.before.loop.table c.before.before.before.before.loop.at c.before.before.before.before.loop.i c.before.before.before.before.loop.invariant
-      c.before.before.before.before.before.width_of_lem.result c.before.before.before.before.before.width_of_lem.ensures.0 c.before.before.before.before.before.before.before.requires.0 c.before.before.before.before.before.before.before.requires.2 c.before.before.before.before.before.before.before.requires.3 c.before.before.before.loop-test.true c.before.before.fields_at.result c.before.before.fields_at.ensures.0 c.if1.true,
+returns-then-not-f : tie.Need-returns-then-not-f invariant-loop-i decreases-loop-i
+returns-then-not-f c = let a = c.args in (
+  turn_21 a.kind a.n a.line a.from a.s.now a.table.now c.loop-i.table c.loop-i.at c.loop-i.i c.loop-i.invariant
+      c.width_of-width.result c.width_of-width.ensures.0 c.requires.0 c.requires.2 c.requires.3 c.loop-i-test.true c.fields_at-f.result c.fields_at-f.ensures.0 c.if-not-f.true,
   omega arith,
 )
 
-in-range-requires : tie.Need-in-range-requires invariant-loop decreases-loop
-in-range-requires c κs = search rules
+in_range-requires : tie.Need-in_range-requires invariant-loop-i decreases-loop-i
+in_range-requires c κs = search rules
 
-add-t18 : tie.Need-overflow-add-t18 invariant-loop decreases-loop
-add-t18 c = search rules
+overflow_add-result-then-not-in_range : tie.Need-overflow_add-result-then-not-in_range invariant-loop-i decreases-loop-i
+overflow_add-result-then-not-in_range c = search rules
 
-same-length-2 : tie.Need-same-length-2 invariant-loop decreases-loop
-same-length-2 c = c.before.before.before.before.before.before.before.before.loop.invariant.long
+shape_of-table-then-not-in_range : tie.Need-shape_of-table-then-not-in_range invariant-loop-i decreases-loop-i
+shape_of-table-then-not-in_range c = c.loop-i.invariant.long
 
-returns-2 : tie.Need-returns-2 invariant-loop decreases-loop
-returns-2 c = let a = c.before.before.before.before.before.before.before.before.before.before.before.args in (
-  turn_22 a.kind a.n a.line a.from a.s.now a.table.now c.before.before.before.before.before.before.before.before.loop.table c.before.before.before.before.before.before.before.before.loop.at c.before.before.before.before.before.before.before.before.loop.i c.before.before.before.before.before.before.before.before.loop.invariant
-      c.before.before.before.before.before.before.before.before.before.width_of_lem.result c.before.before.before.before.before.before.before.before.before.width_of_lem.ensures.0 c.before.before.before.before.before.before.before.before.before.before.before.requires.0 c.before.before.before.before.before.before.before.before.before.before.before.requires.2 c.before.before.before.before.before.before.before.before.before.before.before.requires.3 c.before.before.before.before.before.before.before.loop-test.true c.before.before.before.before.before.before.fields_at.result c.before.before.before.before.before.before.fields_at.ensures.0 c.before.before.before.before.if1.false
-      c.before.in_range_lem.result c.before.in_range_lem.ensures c.if2.true,
+returns-then-not-in_range : tie.Need-returns-then-not-in_range invariant-loop-i decreases-loop-i
+returns-then-not-in_range c = let a = c.args in (
+  turn_22 a.kind a.n a.line a.from a.s.now a.table.now c.loop-i.table c.loop-i.at c.loop-i.i c.loop-i.invariant
+      c.width_of-width.result c.width_of-width.ensures.0 c.requires.0 c.requires.2 c.requires.3 c.loop-i-test.true c.fields_at-f.result c.fields_at-f.ensures.0 c.if-not-f.false
+      c.in_range.result c.in_range.ensures c.if-not-in_range.true,
   omega arith,
 )
 
-fits-before-requires : tie.Need-fits-before-requires invariant-loop decreases-loop
-fits-before-requires c κs = let s = c.before.before.before.before.before.before.before.before.before.before.before.before.before in
-    let l : s.args.n * (rule_of s.args.kind).width ≤ length c.before.before.before.before.before.before.before.before.before.before.loop.table = omega (arith, c.before.before.before.before.before.before.before.before.before.before.loop.invariant.long, s.requires.3) in
-    (omega (arith, c.before.before.before.before.before.before.before.before.before.loop-test.true, s.requires.0), room c.before.before.before.before.before.before.before.before.before.before.loop.i s.args.n (rule_of s.args.kind).width (length c.before.before.before.before.before.before.before.before.before.before.loop.table) c.before.before.before.before.before.before.before.before.before.before.loop.invariant.few l)
+fits_before-requires : tie.Need-fits_before-requires invariant-loop-i decreases-loop-i
+fits_before-requires c κs = let s = c in
+    let l : s.args.n * (rule_of s.args.kind).width ≤ length c.loop-i.table = omega (arith, c.loop-i.invariant.long, s.requires.3) in
+    (omega (arith, c.loop-i-test.true, s.requires.0), room c.loop-i.i s.args.n (rule_of s.args.kind).width (length c.loop-i.table) c.loop-i.invariant.few l)
 
-add-t23 : tie.Need-overflow-add-t23 invariant-loop decreases-loop
-add-t23 c = search rules
+overflow_add-result-then-not-fits_before : tie.Need-overflow_add-result-then-not-fits_before invariant-loop-i decreases-loop-i
+overflow_add-result-then-not-fits_before c = search rules
 
-same-length-3 : tie.Need-same-length-3 invariant-loop decreases-loop
-same-length-3 c = c.before.before.before.before.before.before.before.before.before.before.before.before.loop.invariant.long
+shape_of-table-then-not-fits_before : tie.Need-shape_of-table-then-not-fits_before invariant-loop-i decreases-loop-i
+shape_of-table-then-not-fits_before c = c.loop-i.invariant.long
 
-returns-3 : tie.Need-returns-3 invariant-loop decreases-loop
-returns-3 c = let a = c.before.before.before.before.before.before.before.before.before.before.before.before.before.before.before.args in (
-  turn_23 a.kind a.n a.line a.from a.s.now a.table.now c.before.before.before.before.before.before.before.before.before.before.before.before.loop.table c.before.before.before.before.before.before.before.before.before.before.before.before.loop.at c.before.before.before.before.before.before.before.before.before.before.before.before.loop.i c.before.before.before.before.before.before.before.before.before.before.before.before.loop.invariant
-      c.before.before.before.before.before.before.before.before.before.before.before.before.before.width_of_lem.result c.before.before.before.before.before.before.before.before.before.before.before.before.before.width_of_lem.ensures.0 c.before.before.before.before.before.before.before.before.before.before.before.before.before.before.before.requires.0 c.before.before.before.before.before.before.before.before.before.before.before.before.before.before.before.requires.2 c.before.before.before.before.before.before.before.before.before.before.before.before.before.before.before.requires.3 c.before.before.before.before.before.before.before.before.before.before.before.loop-test.true c.before.before.before.before.before.before.before.before.before.before.fields_at.result c.before.before.before.before.before.before.before.before.before.before.fields_at.ensures.0 c.before.before.before.before.before.before.before.before.if1.false
-      c.before.before.before.before.before.in_range_lem.result c.before.before.before.before.before.in_range_lem.ensures c.before.before.before.before.if2.false c.before.fits-before.result c.before.fits-before.ensures c.if3.true,
+returns-then-not-fits_before : tie.Need-returns-then-not-fits_before invariant-loop-i decreases-loop-i
+returns-then-not-fits_before c = let a = c.args in (
+  turn_23 a.kind a.n a.line a.from a.s.now a.table.now c.loop-i.table c.loop-i.at c.loop-i.i c.loop-i.invariant
+      c.width_of-width.result c.width_of-width.ensures.0 c.requires.0 c.requires.2 c.requires.3 c.loop-i-test.true c.fields_at-f.result c.fields_at-f.ensures.0 c.if-not-f.false
+      c.in_range.result c.in_range.ensures c.if-not-in_range.false c.fits_before.result c.fits_before.ensures c.if-not-fits_before.true,
   omega arith,
 )
 
-mul-put-row : tie.Need-overflow-mul-put-row invariant-loop decreases-loop
-mul-put-row c = let a : c.before.before.before.before.before.before.before.before.before.before.before.before.before.loop.i * c.before.before.before.before.before.before.before.before.before.before.before.before.before.before.width_of_lem.result ≤ most_lines * line_width = small c.before.before.before.before.before.before.before.before.before.before.before.before.before.loop.i c.before.before.before.before.before.before.before.before.before.before.before.before.before.before.width_of_lem.result (omega (arith, c.before.before.before.before.before.before.before.before.before.before.before.before.before.loop.invariant.few, c.before.before.before.before.before.before.before.before.before.before.before.before.before.before.before.before.requires.0)) c.before.before.before.before.before.before.before.before.before.before.before.before.before.before.width_of_lem.ensures.1 in
+overflow_mul-i : tie.Need-overflow_mul-i invariant-loop-i decreases-loop-i
+overflow_mul-i c = let a : c.loop-i.i * c.width_of-width.result ≤ most_lines * line_width = small c.loop-i.i c.width_of-width.result (omega (arith, c.loop-i.invariant.few, c.requires.0)) c.width_of-width.ensures.1 in
     omega arith
 
-put-row-requires : tie.Need-put-row-requires invariant-loop decreases-loop
-put-row-requires c κs = let s = c.before.before.before.before.before.before.before.before.before.before.before.before.before.before.before.before.before in
-    let w = c.before.before.before.before.before.before.before.before.before.before.before.before.before.before.before.width_of_lem.result in
-    let i = c.before.before.before.before.before.before.before.before.before.before.before.before.before.before.loop.i in
-    let l : s.args.n * (rule_of s.args.kind).width ≤ length c.before.before.before.before.before.before.before.before.before.before.before.before.before.before.loop.table = omega (arith, c.before.before.before.before.before.before.before.before.before.before.before.before.before.before.loop.invariant.long, s.requires.3) in
-    let l' : s.args.n * w ≤ length c.before.before.before.before.before.before.before.before.before.before.before.before.before.before.loop.table = rw c.before.before.before.before.before.before.before.before.before.before.before.before.before.before.before.width_of_lem.ensures.0 l in
-    let a : i * w ≤ most_lines * line_width = small i w (omega (arith, c.before.before.before.before.before.before.before.before.before.before.before.before.before.before.loop.invariant.few, s.requires.0)) c.before.before.before.before.before.before.before.before.before.before.before.before.before.before.before.width_of_lem.ensures.1 in
-    let r : length c.before.before.before.before.before.before.before.before.before.before.before.before.fields_at.result.row ≡ line_width = search rules in
-    (c.before.before.before.before.before.before.before.before.before.before.before.before.before.before.before.width_of_lem.ensures.1, a, more_room i s.args.n w (length c.before.before.before.before.before.before.before.before.before.before.before.before.before.before.loop.table) c.before.before.before.before.before.before.before.before.before.before.before.before.before.loop-test.true l', r)
+put_row-requires : tie.Need-put_row-requires invariant-loop-i decreases-loop-i
+put_row-requires c κs = let s = c in
+    let w = c.width_of-width.result in
+    let i = c.loop-i.i in
+    let l : s.args.n * (rule_of s.args.kind).width ≤ length c.loop-i.table = omega (arith, c.loop-i.invariant.long, s.requires.3) in
+    let l' : s.args.n * w ≤ length c.loop-i.table = rw c.width_of-width.ensures.0 l in
+    let a : i * w ≤ most_lines * line_width = small i w (omega (arith, c.loop-i.invariant.few, s.requires.0)) c.width_of-width.ensures.1 in
+    let r : length c.fields_at-f.result.row ≡ line_width = search rules in
+    (c.width_of-width.ensures.1, a, more_room i s.args.n w (length c.loop-i.table) c.loop-i-test.true l', r)
 
-add-i : tie.Need-overflow-add-i invariant-loop decreases-loop
-add-i c = search rules
+overflow_add-i : tie.Need-overflow_add-i invariant-loop-i decreases-loop-i
+overflow_add-i c = search rules
 
-loop-less : tie.Need-loop-smaller invariant-loop decreases-loop
-loop-less c = omega (arith, c.before.before.before.before.before.before.before.before.before.before.before.before.before.before.before.loop-test.true)
+loop-i-smaller : tie.Need-loop-i-smaller invariant-loop-i decreases-loop-i
+loop-i-smaller c = omega (arith, c.loop-i-test.true)
 
-loop-again : tie.Need-loop-preserved invariant-loop decreases-loop
-loop-again c = let a = c.before.before.before.before.before.before.before.before.before.before.before.before.before.before.before.before.before.before.before.args in
-    let r : length c.before.before.before.before.before.before.before.before.before.before.before.before.before.before.fields_at.result.row ≡ line_width = search rules in
-    turn a.kind a.n a.line a.from a.s.now a.table.now c.before.before.before.before.before.before.before.before.before.before.before.before.before.before.before.before.loop.table c.before.before.before.before.before.before.before.before.before.before.before.before.before.before.before.before.loop.at c.before.before.before.before.before.before.before.before.before.before.before.before.before.before.before.before.loop.i c.before.before.before.before.before.before.before.before.before.before.before.before.before.before.before.before.loop.invariant
-    c.before.before.before.before.before.before.before.before.before.before.before.before.before.before.before.before.before.width_of_lem.result c.before.before.before.before.before.before.before.before.before.before.before.before.before.before.before.before.before.width_of_lem.ensures.0 c.before.before.before.before.before.before.before.before.before.before.before.before.before.before.before.before.before.before.before.requires.0 c.before.before.before.before.before.before.before.before.before.before.before.before.before.before.before.before.before.before.before.requires.2 c.before.before.before.before.before.before.before.before.before.before.before.before.before.before.before.before.before.before.before.requires.3 c.before.before.before.before.before.before.before.before.before.before.before.before.before.before.before.loop-test.true c.before.before.before.before.before.before.before.before.before.before.before.before.before.before.fields_at.result c.before.before.before.before.before.before.before.before.before.before.before.before.before.before.fields_at.ensures.0 c.before.before.before.before.before.before.before.before.before.before.before.before.if1.false
-    c.before.before.before.before.before.before.before.before.before.in_range_lem.result c.before.before.before.before.before.before.before.before.before.in_range_lem.ensures c.before.before.before.before.before.before.before.before.if2.false c.before.before.before.before.before.fits-before.result c.before.before.before.before.before.fits-before.ensures c.before.put-row.new.0 c.before.before.before.before.if3.false r c.before.put-row.ensures
+loop-i-preserved : tie.Need-loop-i-preserved invariant-loop-i decreases-loop-i
+loop-i-preserved c = let a = c.args in
+    let r : length c.fields_at-f.result.row ≡ line_width = search rules in
+    turn a.kind a.n a.line a.from a.s.now a.table.now c.loop-i.table c.loop-i.at c.loop-i.i c.loop-i.invariant
+    c.width_of-width.result c.width_of-width.ensures.0 c.requires.0 c.requires.2 c.requires.3 c.loop-i-test.true c.fields_at-f.result c.fields_at-f.ensures.0 c.if-not-f.false
+    c.in_range.result c.in_range.ensures c.if-not-in_range.false c.fits_before.result c.fits_before.ensures c.put_row.new.0 c.if-not-fits_before.false r c.put_row.ensures
 
-same-length-4 : tie.Need-same-length-4 invariant-loop decreases-loop
-same-length-4 c = c.before.loop.invariant.long
+shape_of-table : tie.Need-shape_of-table invariant-loop-i decreases-loop-i
+shape_of-table c = c.loop-i.invariant.long
 
-returns-4 : tie.Need-returns-4 invariant-loop decreases-loop
-returns-4 c = let a = c.before.before.before.before.args in
-    (all_read a.kind a.n a.line a.from a.s.now a.table.now c.before.loop.table c.before.loop.at c.before.loop.i c.before.loop.invariant c.loop-test.false, omega arith)
+returns : tie.Need-returns invariant-loop-i decreases-loop-i
+returns c = let a = c.args in
+    (all_read a.kind a.n a.line a.from a.s.now a.table.now c.loop-i.table c.loop-i.at c.loop-i.i c.loop-i.invariant c.loop-i-test.false, omega arith)
 
-pub read-section-spec : {M : Type 1} → statement M
-read-section-spec =
+pub read_section_spec : {M : Type 1} → statement M
+read_section_spec =
     tie.close
     (tie.spec
-    invariant-loop
-    decreases-loop
-    width-of-requires
-    loop-holds
-    fields-at-requires
-    add-t14
-    same_length
-    returns
-    in-range-requires
-    add-t18
-    same-length-2
-    returns-2
-    fits-before-requires
-    add-t23
-    same-length-3
-    returns-3
-    mul-put-row
-    put-row-requires
-    add-i
-    loop-less
-    loop-again
-    same-length-4
-    returns-4)
+    invariant-loop-i
+    decreases-loop-i
+    width_of-width-requires
+    loop-i-init
+    fields_at-f-requires
+    overflow_add-result
+    shape_of-table-then-not-f
+    returns-then-not-f
+    in_range-requires
+    overflow_add-result-then-not-in_range
+    shape_of-table-then-not-in_range
+    returns-then-not-in_range
+    fits_before-requires
+    overflow_add-result-then-not-fits_before
+    shape_of-table-then-not-fits_before
+    returns-then-not-fits_before
+    overflow_mul-i
+    put_row-requires
+    overflow_add-i
+    loop-i-smaller
+    loop-i-preserved
+    shape_of-table
+    returns)

@@ -12,60 +12,60 @@ use borrow.Author.Rules.{rules}
 use Rattle.sheet_reader.proofs.whole.from_clips.Statement.{statement}
 use Rattle.sheet_reader.proofs.whole.from_clips.Tie as tie
 
-cast-most : tie.Need-overflow-cast-most
-cast-most c = search rules
+overflow_cast-most : tie.Need-overflow_cast-most
+overflow_cast-most c = search rules
 
-add-counted : tie.Need-overflow-add-counted
-add-counted c = search rules
+overflow_add-n : tie.Need-overflow_add-n
+overflow_add-n c = search rules
 
-slice-aggregate-counted : tie.Need-slice-aggregate-counted
-slice-aggregate-counted c = search rules
+slice_bounds-counted-end : tie.Need-slice_bounds-counted-end
+slice_bounds-counted-end c = search rules
 
 counted-requires : tie.Need-counted-requires
 counted-requires c κs = search rules
 
-enum-known-why : tie.Need-enum-known-why
-enum-known-why c = search rules
+enum_known-why : tie.Need-enum_known-why
+enum_known-why c = search rules
 
 refused-requires : tie.Need-refused-requires
 refused-requires c κs = search rules
 
-enum-known-m : tie.Need-enum-known-m
-enum-known-m c = search rules
+enum_known-m : tie.Need-enum_known-m
+enum_known-m c = search rules
 
-from-taps-requires : tie.Need-from-taps-requires
-from-taps-requires c κs = let b : c.before.m.given.0.0 ≤ c.before.before.before.before.before.before.before.args.n = rw c.before.m.given.1 at c.before.before.before.before.counted.ensures.1 in
-    (c.before.before.before.before.before.before.before.requires, omega (arith, c.before.before.before.before.before.before.before.requires))
+from_taps-requires : tie.Need-from_taps-requires
+from_taps-requires c κs = let b : c.in-Ended.m ≤ c.args.n = rw c.in-Ended.is at c.counted.ensures.1 in
+    (c.requires, omega (arith, c.requires))
 
-returns : tie.Need-returns
-returns c = let a = c.before.before.before.before.before.before.before.before.args in (
+returns-in-Stopped : tie.Need-returns-in-Stopped
+returns-in-Stopped c = let a = c.args in (
   c.refused.ensures.0
       ∙ clips_stop (rows_of place_width a.n a.places) a.n (rows_length place_width a.n a.places) (drop a.at a.s.now)
-      (number_of c.before.before.why.given.0.0) c.before.before.why.given.0.1.0 (rw c.before.before.why.given.1 at c.before.before.before.before.before.counted.ensures.0),
+      (number_of c.in-Stopped.why) c.in-Stopped.l (rw c.in-Stopped.is at c.counted.ensures.0),
   c.refused.ensures.1,
 )
 
-returns-2 : tie.Need-returns-2
-returns-2 c = let a = c.before.before.before.before.before.before.before.before.args in
-    let m = c.before.before.m.given.0.0 in
-    let next = c.before.before.m.given.0.1.0 in (
-      c.from-taps.ensures.0
+returns-in-Ended : tie.Need-returns-in-Ended
+returns-in-Ended c = let a = c.args in
+    let m = c.in-Ended.m in
+    let next = c.in-Ended.next in (
+      c.from_taps.ensures.0
           ∙ clips_go (rows_of place_width a.n a.places) a.n (rows_length place_width a.n a.places) (drop a.at a.s.now)
-          (rows_of clip_width m c.before.before.before.before.before.counted.new.1.1.1.1.1.0) (drop next a.s.now) (rw c.before.before.m.given.1 at c.before.before.before.before.before.counted.ensures.0),
-      c.from-taps.ensures.1,
+          (rows_of clip_width m c.counted.new.1.1.1.1.1.0) (drop next a.s.now) (rw c.in-Ended.is at c.counted.ensures.0),
+      c.from_taps.ensures.1,
     )
 
-pub from-clips-spec : {M : Type 1} → statement M
-from-clips-spec =
+pub from_clips_spec : {M : Type 1} → statement M
+from_clips_spec =
     tie.close
     (tie.spec
-    cast-most
-    add-counted
-    slice-aggregate-counted
+    overflow_cast-most
+    overflow_add-n
+    slice_bounds-counted-end
     counted-requires
-    enum-known-why
+    enum_known-why
     refused-requires
-    enum-known-m
-    from-taps-requires
-    returns
-    returns-2)
+    enum_known-m
+    from_taps-requires
+    returns-in-Stopped
+    returns-in-Ended)

@@ -6,14 +6,14 @@ use borrow.Author.Rules.{rules}
 use Rattle.sheet_reader.proofs.whole.left.Statement.{statement}
 use Rattle.sheet_reader.proofs.whole.left.Tie as tie
 
+returns-then-at-s : tie.Need-returns-then-at-s
+returns-then-at-s c = simp length-drop (omega arith)
+
+overflow_sub-result : tie.Need-overflow_sub-result
+overflow_sub-result c = search rules
+
 returns : tie.Need-returns
 returns c = simp length-drop (omega arith)
 
-sub-result : tie.Need-overflow-sub-result
-sub-result c = search rules
-
-returns-2 : tie.Need-returns-2
-returns-2 c = simp length-drop (omega arith)
-
-pub left-spec : {M : Type 1} → statement M
-left-spec = tie.close (tie.spec returns sub-result returns-2)
+pub left_spec : {M : Type 1} → statement M
+left_spec = tie.close (tie.spec returns-then-at-s overflow_sub-result returns)

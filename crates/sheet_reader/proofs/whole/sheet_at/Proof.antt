@@ -16,57 +16,57 @@ left-requires c κs = search rules
 refused-requires : tie.Need-refused-requires
 refused-requires c κs = search rules
 
-returns : tie.Need-returns
-returns c = (c.refused.ensures.0 ∙ too_long (drop c.before.before.before.before.args.at c.before.before.before.before.args.s.now) (omega (arith, c.before.before.left.ensures, c.before.if1.true)), c.refused.ensures.1)
+returns-then-left-gt65536 : tie.Need-returns-then-left-gt65536
+returns-then-left-gt65536 c = (c.refused.ensures.0 ∙ too_long (drop c.args.at c.args.s.now) (omega (arith, c.left.ensures, c.if-left-gt65536.true)), c.refused.ensures.1)
 
-slice-aggregate-counted : tie.Need-slice-aggregate-counted
-slice-aggregate-counted c = search rules
+slice_bounds-counted-end : tie.Need-slice_bounds-counted-end
+slice_bounds-counted-end c = search rules
 
 counted-requires : tie.Need-counted-requires
 counted-requires c κs = search rules
 
-enum-known-why : tie.Need-enum-known-why
-enum-known-why c = search rules
+enum_known-why : tie.Need-enum_known-why
+enum_known-why c = search rules
 
-refused-requires-2 : tie.Need-refused-requires-2
-refused-requires-2 c κs = search rules
+refused-requires-in-Stopped : tie.Need-refused-requires-in-Stopped
+refused-requires-in-Stopped c κs = search rules
 
-enum-known-n : tie.Need-enum-known-n
-enum-known-n c = search rules
+enum_known-n : tie.Need-enum_known-n
+enum_known-n c = search rules
 
-from-clips-requires : tie.Need-from-clips-requires
-from-clips-requires c κs = rw c.before.n.given.1 at c.before.before.before.before.counted.ensures.1
+from_clips-requires : tie.Need-from_clips-requires
+from_clips-requires c κs = rw c.in-Ended.is at c.counted.ensures.1
 
-returns-2 : tie.Need-returns-2
-returns-2 c = let a = c.before.before.before.before.before.before.before.before.before.before.args in (
-  c.refused2.ensures.0
-      ∙ places_stop (drop a.at a.s.now) (omega (arith, c.before.before.before.before.before.before.before.before.left.ensures, c.before.before.before.before.before.before.before.if1.false))
-      (number_of c.before.before.why.given.0.0) c.before.before.why.given.0.1.0 (rw c.before.before.why.given.1 at c.before.before.before.before.before.counted.ensures.0),
-  c.refused2.ensures.1,
+returns-in-Stopped : tie.Need-returns-in-Stopped
+returns-in-Stopped c = let a = c.args in (
+  c.refused-in-Stopped.ensures.0
+      ∙ places_stop (drop a.at a.s.now) (omega (arith, c.left.ensures, c.if-left-gt65536.false))
+      (number_of c.in-Stopped.why) c.in-Stopped.l (rw c.in-Stopped.is at c.counted.ensures.0),
+  c.refused-in-Stopped.ensures.1,
 )
 
-returns-3 : tie.Need-returns-3
-returns-3 c = let a = c.before.before.before.before.before.before.before.before.before.before.args in
-    let n = c.before.before.n.given.0.0 in
-    let next = c.before.before.n.given.0.1.0 in (
-      c.from-clips.ensures.0
-          ∙ places_go (drop a.at a.s.now) (omega (arith, c.before.before.before.before.before.before.before.before.left.ensures, c.before.before.before.before.before.before.before.if1.false))
-          (rows_of place_width n c.before.before.before.before.before.counted.new.1.1.1.1.1.0) (drop next a.s.now) (rw c.before.before.n.given.1 at c.before.before.before.before.before.counted.ensures.0),
-      c.from-clips.ensures.1,
+returns-in-Ended : tie.Need-returns-in-Ended
+returns-in-Ended c = let a = c.args in
+    let n = c.in-Ended.n in
+    let next = c.in-Ended.next in (
+      c.from_clips.ensures.0
+          ∙ places_go (drop a.at a.s.now) (omega (arith, c.left.ensures, c.if-left-gt65536.false))
+          (rows_of place_width n c.counted.new.1.1.1.1.1.0) (drop next a.s.now) (rw c.in-Ended.is at c.counted.ensures.0),
+      c.from_clips.ensures.1,
     )
 
-pub sheet-at-spec : {M : Type 1} → statement M
-sheet-at-spec =
+pub sheet_at_spec : {M : Type 1} → statement M
+sheet_at_spec =
     tie.close
     (tie.spec
     left-requires
     refused-requires
-    returns
-    slice-aggregate-counted
+    returns-then-left-gt65536
+    slice_bounds-counted-end
     counted-requires
-    enum-known-why
-    refused-requires-2
-    enum-known-n
-    from-clips-requires
-    returns-2
-    returns-3)
+    enum_known-why
+    refused-requires-in-Stopped
+    enum_known-n
+    from_clips-requires
+    returns-in-Stopped
+    returns-in-Ended)

@@ -17,47 +17,47 @@ ranges : (s : tie.Start) → ClipRanges s.args.c
 ranges s = clip_ranges s.args.c s.requires
 
 -- both corners compared
-corners : (c : tie.After-equal2) → let l = c.before.before.before.before.before.before.args.c in
-    c.before.before.before.equal.result && c.equal2.result ≡ equal l.x0 l.x1 && equal l.y0 l.y1
+corners : (c : tie.After-equal-2) → let l = c.args.c in
+    c.equal.result && c.equal-2.result ≡ equal l.x0 l.x1 && equal l.y0 l.y1
 corners c =
     let s = c.before.before.before.before.before.before in
     let l = s.args.c in
     let r = ranges s in
-    rw (c.equal2.ensures, c.before.before.before.equal.ensures, back l.x0 (omega (arith, r.x0)), back l.x1 (omega (arith, r.x1)), back l.y0 (omega (arith, r.y0)), back l.y1 (omega (arith, r.y1)))
+    rw (c.equal-2.ensures, c.equal.ensures, back l.x0 (omega (arith, r.x0)), back l.x1 (omega (arith, r.x1)), back l.y0 (omega (arith, r.y0)), back l.y1 (omega (arith, r.y1)))
+
+returns-then-equal : tie.Need-returns-then-equal
+unfolding call.clip_on
+returns-then-equal c = rw (sym (corners c.before), c.if-equal.true)
+
+real-x0-requires : tie.Need-real-x0-requires
+real-x0-requires c κs = tt
+
+real-y0-requires : tie.Need-real-y0-requires
+real-y0-requires c κs = tt
+
+real-x1-requires : tie.Need-real-x1-requires
+real-x1-requires c κs = tt
+
+real-y1-requires : tie.Need-real-y1-requires
+real-y1-requires c κs = tt
+
+real-radius-requires : tie.Need-real-radius-requires
+real-radius-requires c κs = tt
 
 returns : tie.Need-returns
 unfolding call.clip_on
-returns c = rw (sym (corners c.before), c.if1.true)
-
-real-requires : tie.Need-real-requires
-real-requires c κs = tt
-
-real-requires-2 : tie.Need-real-requires-2
-real-requires-2 c κs = tt
-
-real-requires-3 : tie.Need-real-requires-3
-real-requires-3 c κs = tt
-
-real-requires-4 : tie.Need-real-requires-4
-real-requires-4 c κs = tt
-
-real-requires-5 : tie.Need-real-requires-5
-real-requires-5 c κs = tt
-
-returns-2 : tie.Need-returns-2
-unfolding call.clip_on
-returns-2 c =
+returns c =
     let s = c.before.before.before.before.before.before.before.before.before.before.before.before.before.before.before.before.before in
     let l = s.args.c in
     let r = ranges s in
     rw (
       sym (corners c.before.before.before.before.before.before.before.before.before.before.before),
-      c.before.before.before.before.before.before.before.before.before.before.if1.false,
-      c.real5.ensures,
-      c.before.before.real4.ensures,
-      c.before.before.before.before.real3.ensures,
-      c.before.before.before.before.before.before.real2.ensures,
-      c.before.before.before.before.before.before.before.before.real.ensures,
+      c.if-equal.false,
+      c.real-radius.ensures,
+      c.real-y1.ensures,
+      c.real-x1.ensures,
+      c.real-y0.ensures,
+      c.real-x0.ensures,
       back l.x0 (omega (arith, r.x0)),
       back l.x1 (omega (arith, r.x1)),
       back l.y0 (omega (arith, r.y0)),
@@ -65,7 +65,7 @@ returns-2 c =
       back l.radius (omega (arith, r.radius)),
     )
 
-pub clip-on-spec : {M : Type 1} → statement M
-clip-on-spec =
+pub clip_on_spec : {M : Type 1} → statement M
+clip_on_spec =
     tie.close
-    (tie.spec equal-requires equal-requires-2 returns real-requires real-requires-2 real-requires-3 real-requires-4 real-requires-5 returns-2)
+    (tie.spec equal-requires equal-requires-2 returns-then-equal real-x0-requires real-y0-requires real-x1-requires real-y1-requires real-radius-requires returns)

@@ -3,11 +3,11 @@ use Rattle.sheet_records.proofs.values.Signed.{negation, negation_fits}
 use Rattle.sheet_records.proofs.orientations.negated.Statement.{statement}
 use Rattle.sheet_records.proofs.orientations.negated.Tie as tie
 
-sub-result : tie.Need-overflow-sub-result
-sub-result c = negation_fits c.args.x c.requires
+overflow_sub-result : tie.Need-overflow_sub-result
+overflow_sub-result c = negation_fits c.args.x c.requires
 
 returns : tie.Need-returns
 returns c = negation c.args.x c.requires
 
-pub negated-spec : {M : Type 1} → statement M
-negated-spec = tie.close (tie.spec sub-result returns)
+pub negated_spec : {M : Type 1} → statement M
+negated_spec = tie.close (tie.spec overflow_sub-result returns)

@@ -7,50 +7,50 @@ use Rattle.sheet_records.specs.orientations.Turns as spec
 use Rattle.sheet_records.proofs.orientations.orientation.Statement.{statement}
 use Rattle.sheet_records.proofs.orientations.orientation.Tie as tie
 
-abbrev invariant-loop : tie.invariant-loop
-invariant-loop k n m₀ i₀ m i = (i ≤ n) × (spec.linear m ≡ call.turns i (spec.start_of k))
+abbrev invariant-loop-i : tie.invariant-loop-i
+invariant-loop-i k n m₀ i₀ m i = (i ≤ n) × (spec.linear m ≡ call.turns i (spec.start_of k))
 
-abbrev decreases-loop : tie.decreases-loop
-decreases-loop k n m₀ i₀ m i = n - i
+abbrev decreases-loop-i : tie.decreases-loop-i
+decreases-loop-i k n m₀ i₀ m i = n - i
 
-start-requires : tie.Need-start-requires invariant-loop decreases-loop
-start-requires c κs = search rules
+start-m-requires : tie.Need-start-m-requires invariant-loop-i decreases-loop-i
+start-m-requires c κs = search rules
 
-loop-holds : tie.Need-loop-init invariant-loop decreases-loop
+loop-i-init : tie.Need-loop-i-init invariant-loop-i decreases-loop-i
 unfolding call.turns
-loop-holds c = (search rules, c.start.ensures)
+loop-i-init c = (search rules, c.start-m.ensures)
 
-turned-requires : tie.Need-turned-requires invariant-loop decreases-loop
-turned-requires c κs =
-    let k = c.before.before.before.args.k in
-    subst Small (sym c.before.loop.invariant.1) (turns_small c.before.loop.i (spec.start_of k) (first_small (ltb k 4)))
+turned-m-requires : tie.Need-turned-m-requires invariant-loop-i decreases-loop-i
+turned-m-requires c κs =
+    let k = c.args.k in
+    subst Small (sym c.loop-i.invariant.1) (turns_small c.loop-i.i (spec.start_of k) (first_small (ltb k 4)))
 
-add-i : tie.Need-overflow-add-i invariant-loop decreases-loop
-add-i c = search rules
+overflow_add-i : tie.Need-overflow_add-i invariant-loop-i decreases-loop-i
+overflow_add-i c = search rules
 
-loop-less : tie.Need-loop-smaller invariant-loop decreases-loop
-loop-less c = search rules
+loop-i-smaller : tie.Need-loop-i-smaller invariant-loop-i decreases-loop-i
+loop-i-smaller c = search rules
 
-loop-again : tie.Need-loop-preserved invariant-loop decreases-loop
+loop-i-preserved : tie.Need-loop-i-preserved invariant-loop-i decreases-loop-i
 unfolding call.turns
-loop-again c = (search rules, c.turned.ensures ∙ ap call.turned c.before.before.loop.invariant.1 ∙ rw add-one)
+loop-i-preserved c = (search rules, c.turned-m.ensures ∙ ap call.turned c.loop-i.invariant.1 ∙ rw add-one)
 
-returns : tie.Need-returns invariant-loop decreases-loop
+returns : tie.Need-returns invariant-loop-i decreases-loop-i
 unfolding call.orientation
 returns c =
-    let k = c.before.before.before.args.k in
-    c.before.loop.invariant.1 ∙ ap (λ (n : ℕ). call.turns n (spec.start_of k)) (omega arith)
+    let k = c.args.k in
+    c.loop-i.invariant.1 ∙ ap (λ (n : ℕ). call.turns n (spec.start_of k)) (omega arith)
 
-pub orientation-spec : {M : Type 1} → statement M
-orientation-spec =
+pub orientation_spec : {M : Type 1} → statement M
+orientation_spec =
     tie.close
     (tie.spec
-    invariant-loop
-    decreases-loop
-    start-requires
-    loop-holds
-    turned-requires
-    add-i
-    loop-less
-    loop-again
+    invariant-loop-i
+    decreases-loop-i
+    start-m-requires
+    loop-i-init
+    turned-m-requires
+    overflow_add-i
+    loop-i-smaller
+    loop-i-preserved
     returns)

@@ -3,11 +3,11 @@ use Rattle.std.proofs.Common.{le-ltb, lt-ltb}
 use Rattle.sheet_records.proofs.orientations.start.Statement.{statement}
 use Rattle.sheet_records.proofs.orientations.start.Tie as tie
 
-returns : tie.Need-returns
-returns c = rw (lt-ltb _ _ c.if1.true)
+returns-then-k-lt4 : tie.Need-returns-then-k-lt4
+returns-then-k-lt4 c = rw (lt-ltb _ _ c.if-k-lt4.true)
 
-returns-2 : tie.Need-returns-2
-returns-2 c = rw (le-ltb _ _ c.if1.false)
+returns-else-k-lt4 : tie.Need-returns-else-k-lt4
+returns-else-k-lt4 c = rw (le-ltb _ _ c.if-k-lt4.false)
 
 pub start_spec : {M : Type 1} → statement M
-start_spec = tie.close (tie.spec returns returns-2)
+start_spec = tie.close (tie.spec returns-then-k-lt4 returns-else-k-lt4)

@@ -5,12 +5,12 @@ use Rattle.sheet_records.proofs.values.Signed.{back}
 use Rattle.sheet_records.proofs.orientations.turned.Statement.{statement}
 use Rattle.sheet_records.proofs.orientations.turned.Tie as tie
 
-negated-requires : tie.Need-negated-requires
-negated-requires c κs = rw (back c.before.args.m.b (omega (arith, c.before.requires.b))) c.before.requires.b
+negated-a-requires : tie.Need-negated-a-requires
+negated-a-requires c κs = rw (back c.args.m.b (omega (arith, c.requires.b))) c.requires.b
 
-negated-requires-2 : tie.Need-negated-requires-2
-negated-requires-2 c κs =
-    rw (back c.before.before.before.args.m.d (omega (arith, c.before.before.before.requires.d))) c.before.before.before.requires.d
+negated-c-requires : tie.Need-negated-c-requires
+negated-c-requires c κs =
+    rw (back c.args.m.d (omega (arith, c.requires.d))) c.requires.d
 
 returns : tie.Need-returns
 returns c =
@@ -19,13 +19,13 @@ returns c =
     rw (
       back m.a (omega (arith, s.requires.a)),
       back m.c (omega (arith, s.requires.c)),
-      c.before.negated2.ensures,
-      c.before.before.before.negated.ensures,
+      c.negated-c.ensures,
+      c.negated-a.ensures,
       back m.b (omega (arith, s.requires.b)),
       back m.d (omega (arith, s.requires.d)),
       back (neg_ℤ m.b) (omega (arith, abs_neg m.b, s.requires.b)),
       back (neg_ℤ m.d) (omega (arith, abs_neg m.d, s.requires.d)),
     )
 
-pub turned-spec : {M : Type 1} → statement M
-turned-spec = tie.close (tie.spec negated-requires negated-requires-2 returns)
+pub turned_spec : {M : Type 1} → statement M
+turned_spec = tie.close (tie.spec negated-a-requires negated-c-requires returns)

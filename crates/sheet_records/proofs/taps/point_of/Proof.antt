@@ -8,16 +8,16 @@ use Rattle.sheet_records.proofs.taps.point_of.Tie as tie
 ranges : (s : tie.Start) → TapRanges s.args.t
 ranges s = tap_ranges s.args.t s.requires
 
-real-requires : tie.Need-real-requires
-real-requires c κs = tt
+real-x-requires : tie.Need-real-x-requires
+real-x-requires c κs = tt
 
-real-requires-2 : tie.Need-real-requires-2
-real-requires-2 c κs = tt
+real-y-requires : tie.Need-real-y-requires
+real-y-requires c κs = tt
 
 returns : tie.Need-returns
 returns c =
     let s = c.before.before.before.before in
-    rw (c.real2.ensures, c.before.before.real.ensures, back s.args.t.x (omega (arith, (ranges s).x)), back s.args.t.y (omega (arith, (ranges s).y)))
+    rw (c.real-y.ensures, c.real-x.ensures, back s.args.t.x (omega (arith, (ranges s).x)), back s.args.t.y (omega (arith, (ranges s).y)))
 
-pub point-of-spec : {M : Type 1} → statement M
-point-of-spec = tie.close (tie.spec real-requires real-requires-2 returns)
+pub point_of_spec : {M : Type 1} → statement M
+point_of_spec = tie.close (tie.spec real-x-requires real-y-requires returns)

@@ -4,11 +4,11 @@ use mir.ValLaws.{to_z-of_z}
 use Rattle.sheet_records.proofs.values.real.Statement.{statement}
 use Rattle.sheet_records.proofs.values.real.Tie as tie
 
-nearest-i64-to-f64-requires : tie.Need-nearest-i64-to-f64-requires
-nearest-i64-to-f64-requires c κs = tt
+nearest_i64_to_f64-requires : tie.Need-nearest_i64_to_f64-requires
+nearest_i64_to_f64-requires c κs = tt
 
 returns : tie.Need-returns
-returns c = rw (to_z-of_z w64 c.before.args.x c.before.ranges.x) at c.nearest-i64-to-f64.ensures
+returns c = rw (to_z-of_z w64 c.args.x c.ranges.x) at c.nearest_i64_to_f64.ensures
 
-pub real-spec : {M : Type 1} → statement M
-real-spec = tie.close (tie.spec nearest-i64-to-f64-requires returns)
+pub real_spec : {M : Type 1} → statement M
+real_spec = tie.close (tie.spec nearest_i64_to_f64-requires returns)

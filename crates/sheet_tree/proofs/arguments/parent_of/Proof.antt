@@ -8,20 +8,20 @@ use Rattle.sheet_tree.proofs.arguments.Parents.{no_parent, some_parent}
 use Rattle.sheet_tree.proofs.arguments.parent_of.Statement.{statement}
 use Rattle.sheet_tree.proofs.arguments.parent_of.Tie as tie
 
-number-requires : tie.Need-number-requires
-number-requires c κs = word_near c.args.k c.requires.0 c.requires.1
+number-n-requires : tie.Need-number-n-requires
+number-n-requires c κs = word_near c.args.k c.requires.0 c.requires.1
 
-told : (c : tie.After-number) → c.number.result ≡ nat_abs c.before.args.k
-told c = c.number.ensures ∙ ap nat_abs (back c.before.args.k (omega (arith, c.before.requires.1)))
+told : (c : tie.After-number-n) → c.number-n.result ≡ nat_abs c.args.k
+told c = c.number-n.ensures ∙ ap nat_abs (back c.args.k (omega (arith, c.requires.1)))
+
+returns-then-n-eq0 : tie.Need-returns-then-n-eq0
+returns-then-n-eq0 c = no_parent (nat_abs c.args.k) (omega (arith, told c.before))
+
+overflow_sub-result : tie.Need-overflow_sub-result
+overflow_sub-result c = search rules
 
 returns : tie.Need-returns
-returns c = no_parent (nat_abs c.before.before.args.k) (omega (arith, told c.before))
+returns c = some_parent c.number-n.result (nat_abs c.args.k) (told c.before) c.if-n-eq0.false
 
-sub-t4 : tie.Need-overflow-sub-t4
-sub-t4 c = search rules
-
-returns-2 : tie.Need-returns-2
-returns-2 c = some_parent c.before.number.result (nat_abs c.before.before.args.k) (told c.before) c.if1.false
-
-pub parent-of-spec : {M : Type 1} → statement M
-parent-of-spec = tie.close (tie.spec number-requires returns sub-t4 returns-2)
+pub parent_of_spec : {M : Type 1} → statement M
+parent_of_spec = tie.close (tie.spec number-n-requires returns-then-n-eq0 overflow_sub-result returns)

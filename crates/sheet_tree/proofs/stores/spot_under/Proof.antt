@@ -8,63 +8,63 @@ use Rattle.sheet_tree.proofs.stores.Stores.{parent_placed, under_none, under_som
 use Rattle.sheet_tree.proofs.stores.spot_under.Statement.{statement}
 use Rattle.sheet_tree.proofs.stores.spot_under.Tie as tie
 
-enum_told : tie.Need-enum-told
-enum_told c = search rules
+enum_told-1 : tie.Need-enum_told-1
+enum_told-1 c = search rules
 
-enum-known-parent : tie.Need-enum-known-parent
-enum-known-parent c = search rules
+enum_known-parent : tie.Need-enum_known-parent
+enum_known-parent c = search rules
 
-position-requires : tie.Need-position-requires
-position-requires c κs =
-    let p = c.before.before.before.requires in
+position-q-requires : tie.Need-position-q-requires
+position-q-requires c κs =
+    let p = c.requires in
     (omega (arith, p.room), p.order_long)
 
 -- the parent's place
-low : (c : tie.After-position) → c.position.result < c.before.before.before.before.args.count
+low : (c : tie.After-position-q) → c.position-q.result < c.args.count
 low c =
-    let s = c.before.before.before.before in
-    let h = c.before.before.parent.given in
-    omega (arith, c.position.ensures.1, parent_placed s.args.order.now s.args.count s.args.parent h.0.0 h.1 s.requires.placed)
+    let s = c.before.before in
+    let h = c.parent-1.given in
+    omega (arith, c.position-q.ensures.1, parent_placed s.args.order.now s.args.count s.args.parent h.0.0 h.1 s.requires.placed)
 
-mul-d : tie.Need-overflow-mul-d
-mul-d c = omega (arith, low c, c.before.before.before.before.requires.room)
+offset_bounds-depth-q : tie.Need-offset_bounds-depth-q
+offset_bounds-depth-q c = omega (arith, low c, c.requires.room)
 
-element-copy-out-d : tie.Need-element-copy-out-d
-element-copy-out-d c = omega (arith, low c, c.before.before.before.before.requires.room)
+bounds-depth-q : tie.Need-bounds-depth-q
+bounds-depth-q c = omega (arith, low c, c.requires.room)
 
-segment-end-requires : tie.Need-segment-end-requires
-segment-end-requires c κs =
-    let p = c.before.before.before.before.before.requires in
+segment_end-e-requires : tie.Need-segment_end-e-requires
+segment_end-e-requires c κs =
+    let p = c.requires in
     (low c.before, omega (arith, p.room), p.depth_long)
 
-add-t13 : tie.Need-overflow-add-t13
-add-t13 c =
-    let s = c.before.before.before.before.before.before in
-    omega (arith, depth_fits s.args.count s.args.depth.now s.requires.depths c.before.before.position.result (low c.before.before), low c.before.before, s.requires.room)
+overflow_add-result : tie.Need-overflow_add-result
+overflow_add-result c =
+    let s = c in
+    omega (arith, depth_fits s.args.count s.args.depth.now s.requires.depths c.position-q.result (low c.before.before), low c.before.before, s.requires.room)
 
-returns : tie.Need-returns
-returns c =
-    let s = c.before.before in
-    let u = under_none s.args.order.now s.args.depth.now s.args.count s.args.parent c.enum_told.given.1 in
+returns-in-None : tie.Need-returns-in-None
+returns-in-None c =
+    let s = c.before in
+    let u = under_none s.args.order.now s.args.depth.now s.args.count s.args.parent c.in-None.is in
     (omega arith, u.0, u.1)
 
-returns-2 : tie.Need-returns-2
-returns-2 c =
-    let s = c.before.before.before.before.before.before in
-    let h = c.before.before.before.before.parent.given in
+returns-in-Some : tie.Need-returns-in-Some
+returns-in-Some c =
+    let s = c in
+    let h = c.parent-1.given in
     let u = under_some s.args.order.now s.args.depth.now s.args.count s.args.parent h.0.0 h.1 in
-    (c.segment-end.ensures.1, c.segment-end.ensures.2 ∙ rw c.before.before.position.ensures.1 u.0, rw c.before.before.position.ensures.1 u.1)
+    (c.segment_end-e.ensures.1, c.segment_end-e.ensures.2 ∙ rw c.position-q.ensures.1 u.0, rw c.position-q.ensures.1 u.1)
 
-pub spot-under-spec : {M : Type 1} → statement M
-spot-under-spec =
+pub spot_under_spec : {M : Type 1} → statement M
+spot_under_spec =
     tie.close
     (tie.spec
-    enum_told
-    enum-known-parent
-    position-requires
-    mul-d
-    element-copy-out-d
-    segment-end-requires
-    add-t13
-    returns
-    returns-2)
+    enum_told-1
+    enum_known-parent
+    position-q-requires
+    offset_bounds-depth-q
+    bounds-depth-q
+    segment_end-e-requires
+    overflow_add-result
+    returns-in-None
+    returns-in-Some)

@@ -21,34 +21,34 @@ use Rattle.tree_commit.proofs.work.commit_sound.Statement.{statement}
 use Rattle.tree_commit.proofs.work.commit_sound.Tie as tie
 
 -- from each call back to the one before
-abbrev begins : tie.After-needs → tie.Start
-begins c = c.before.before.before.before.before.before.before.before.before.before.before.before.before.before.before.before.before.before.before.before.before.before.before.before.before.before.before.before.before.before.before
+abbrev begins : tie.After-needs-need → tie.Start
+begins c = c
 
-abbrev from-pending : tie.After-put-pending → tie.Else1
-from-pending c = c.before.before.before.before
+abbrev from_pending : tie.After-put_pending → tie.Else-not-need
+from_pending c = c.before.before.before.before
 
-abbrev from-positions : tie.After-positions → tie.After-put-pending
-from-positions c = c.before.before.before.before.before.before.before.before.before.before.before.before
+abbrev from_positions : tie.After-positions-n → tie.After-put_pending
+from_positions c = c.before.before.before.before.before.before.before.before.before.before.before.before
 
-abbrev from-rework : tie.After-rework-all → tie.After-positions
-from-rework c = c.before.before.before.before.before.before.before.before.before.before.before.before.before.before.before.before.before.before.before.before.before.before.before.before.before.before.before.before.before.before
+abbrev from_rework : tie.After-rework_all-r → tie.After-positions-n
+from_rework c = c.before.before.before.before.before.before.before.before.before.before.before.before.before.before.before.before.before.before.before.before.before.before.before.before.before.before.before.before.before.before
 
-abbrev from-index : tie.After-commit-index → tie.After-rework-all
-from-index c = c.before.before.before.before.before.before.before.before.before.before.before
+abbrev from_index : tie.After-commit_index-frees → tie.After-rework_all-r
+from_index c = c.before.before.before.before.before.before.before.before.before.before.before
 
 -- what the tree is known to be
 whole_here : (S : tie.Start) → Whole S.args.t
-whole_here S = whole S.args.t S.well-formed.0
+whole_here S = whole S.args.t S.well_formed.0
 
-sound-here : (S : tie.Start) → SoundTree S.args.t
-sound-here S = sound_of S.args.t (whole_here S) S.requires.0
+sound_here : (S : tie.Start) → SoundTree S.args.t
+sound_here S = sound_of S.args.t (whole_here S) S.requires.0
 
 pending_count : (S : tie.Start) → let p = S.args.t.pending in p.count ≡ length (begun S.args.t).damage
 pending_count S = sym (length_rects S.args.t.pending.rects S.args.t.pending.count)
 
-needs-requires : tie.Need-needs-requires
-needs-requires c κs =
-    let S = c.before.before.before.before.before.before.before.before.before.before.before.before.before.before.before.before.before.before.before.before.before.before.before.before.before.before.before.before.before.before in
+needs-need-requires : tie.Need-needs-need-requires
+needs-need-requires c κs =
+    let S = c in
     let t = S.args.t in
     let z = sized t (whole_here S) in
     let p = sound_places t z S.requires.0 in
@@ -56,35 +56,35 @@ needs-requires c κs =
     (p.0, p.1, p.2, u.0, u.1)
 
 -- the test is the definition's
-told : (c : tie.After-needs) → c.needs.result ≡ needs_commit (begins c).args.t
+told : (c : tie.After-needs-need) → c.needs-need.result ≡ needs_commit (begins c).args.t
 unfolding needs_commit
-told c = c.needs.ensures
+told c = c.needs-need.ensures
 
-returns : tie.Need-returns
-returns c =
+returns-then-not-need : tie.Need-returns-then-not-need
+returns-then-not-need c =
     let N = c.before in
     let A = (begins N).args in
-    clean A.t A.room.now (sym (told N) ∙ not-true N.needs.result c.if1.true)
+    clean A.t A.room.now (sym (told N) ∙ c.if-not-need.true)
 
-put-pending-requires : tie.Need-put-pending-requires
-put-pending-requires c κs = let S = begins c.before.before.before.before in ((sound-here S).pending_fits, S.pre.1, (whole_here S).pending)
+put_pending-requires : tie.Need-put_pending-requires
+put_pending-requires c κs = let S = begins c.before.before.before.before in ((sound_here S).pending_fits, S.pre.1, (whole_here S).pending)
 
-positions-requires : tie.Need-positions-requires
-positions-requires c κs =
-    let S = begins (from-pending c.before.before.before.before.before.before.before.before.before.before.before).before in
-    ((whole_here S).slots.generation, (whole_here S).marks.marked, refl, linked S.args.t (whole_here S) (sound-here S))
+positions-n-requires : tie.Need-positions-n-requires
+positions-n-requires c κs =
+    let S = begins (from_pending c.before.before.before.before.before.before.before.before.before.before.before).before in
+    ((whole_here S).slots.generation, (whole_here S).marks.marked, refl, linked S.args.t (whole_here S) (sound_here S))
 
 -- the room with the pending rectangles is as long
-as_long : (c : tie.After-put-pending) → let S = begins (from-pending c).before in (room : List Float) → room ≡ rects_in_front (begun S.args.t).damage S.args.room.now → length room ≡ length S.args.room.now
+as_long : (c : tie.After-put_pending) → let S = begins (from_pending c).before in (room : List Float) → room ≡ rects_in_front (begun S.args.t).damage S.args.room.now → length room ≡ length S.args.room.now
 as_long c room e =
-    let S = begins (from-pending c).before in
-    front_same (begun S.args.t).damage S.args.room.now room e (omega (arith, pending_count S, (sound-here S).pending_fits, S.pre.1))
+    let S = begins (from_pending c).before in
+    front_same (begun S.args.t).damage S.args.room.now room e (omega (arith, pending_count S, (sound_here S).pending_fits, S.pre.1))
 
-rework-all-requires : tie.Need-rework-all-requires
-rework-all-requires c κs =
+rework_all-r-requires : tie.Need-rework_all-r-requires
+rework_all-r-requires c κs =
     let P = c.before.before.before.before.before.before.before.before.before.before.before.before.before.before.before.before.before.before.before.before.before.before.before.before.before.before.before.before.before in
-    let D = from-positions P in
-    let S = begins (from-pending D).before in
+    let D = from_positions P in
+    let S = begins (from_pending D).before in
     let t = S.args.t in
     let W = whole_here S in
     let E = P.positions.ensures in (
@@ -94,37 +94,37 @@ rework-all-requires c κs =
       W.links.depth,
       W.index.dirty,
       omega (arith, S.pre.1, as_long D _ D.put-pending.ensures),
-      (t, (begun t).damage, pending_count S, positions_ready t _ _ _ E.0 E.1 W (sound-here S)),
+      (t, (begun t).damage, pending_count S, positions_ready t _ _ _ E.0 E.1 W (sound_here S)),
     )
 
-commit-index-requires : tie.Need-commit-index-requires
-commit-index-requires c κs =
+commit_index-frees-requires : tie.Need-commit_index-frees-requires
+commit_index-frees-requires c κs =
     let R = c.before.before.before.before.before.before.before.before.before.before in
-    let P = from-rework R in
-    let S = begins (from-pending (from-positions P)).before in
+    let P = from_rework R in
+    let S = begins (from_pending (from_positions P)).before in
     let t = S.args.t in
     let E = P.positions.ensures in
-    let X = (R.rework-all.ensures.0 t (begun t).damage).0 ∙ ap (λ (l : List ℕ). (rework_all (begun t) l).tree) (positions_are t _ _ _ E.0 E.1) in
-    let F = finish_ready t _ (whole_here S) (sound-here S) X in
+    let X = (R.rework_all-r.ensures.0 t (begun t).damage).0 ∙ ap (λ (l : List ℕ). (rework_all (begun t) l).tree) (positions_are t _ _ _ E.0 E.1) in
+    let F = finish_ready t _ (whole_here S) (sound_here S) X in
     (F.0.mark, F.0.free, F.0.dirty, (_, F.1))
 
-clear-marks-requires : tie.Need-clear-marks-requires
-clear-marks-requires c κs = search rules
+clear_marks-requires : tie.Need-clear_marks-requires
+clear_marks-requires c κs = search rules
 
-same_length : tie.Need-same-length
-same_length c =
-    let R = from-index c.before.before.before.before.before in
-    let D = from-positions (from-rework R) in
+shape_of-room : tie.Need-shape_of-room
+shape_of-room c =
+    let R = from_index c.before.before.before.before.before in
+    let D = from_positions (from_rework R) in
     R.rework-all.ensures.1.1 ∙ as_long D _ D.put-pending.ensures
 
-returns-2 : tie.Need-returns-2
-returns-2 c =
+returns : tie.Need-returns
+returns c =
     let M = c.before in
     let C = M.before.before.before.before in
-    let R = from-index C in
-    let P = from-rework R in
-    let D = from-positions P in
-    let I = from-pending D in
+    let R = from_index C in
+    let P = from_rework R in
+    let D = from_positions P in
+    let I = from_pending D in
     let N = I.before in
     let S = begins N in
     let t = S.args.t in
@@ -134,19 +134,19 @@ returns-2 c =
     joined t _ _ _ _ _ _ _ _ _ _ _ S.args.room.now _ (sym (told N) ∙ not-false N.needs.result I.if1.left)
     (X.0 ∙ ap (λ (l : List ℕ). (rework_all (begun t) l).tree) v)
     ((X.1 (pending_count S)).0 ∙ ap (λ (l : List ℕ). length (rework_all (begun t) l).damage) v)
-    C.commit-index.ensures M.clear-marks.ensures
+    C.commit_index-frees.ensures M.clear_marks.ensures
     ((X.1 (pending_count S)).1 S.args.room.now D.put-pending.ensures ∙ ap (λ (l : List ℕ). rects_in_front (rework_all (begun t) l).damage S.args.room.now) v)
 
-pub commit-sound-spec : {M : Type 1} → statement M
-commit-sound-spec =
+pub commit_sound_spec : {M : Type 1} → statement M
+commit_sound_spec =
     tie.close
     (tie.spec
-    needs-requires
-    returns
-    put-pending-requires
-    positions-requires
-    rework-all-requires
-    commit-index-requires
-    clear-marks-requires
-    same_length
-    returns-2)
+    needs-need-requires
+    returns-then-not-need
+    put_pending-requires
+    positions-n-requires
+    rework_all-r-requires
+    commit_index-frees-requires
+    clear_marks-requires
+    shape_of-room
+    returns)

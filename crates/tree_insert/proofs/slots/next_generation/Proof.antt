@@ -4,14 +4,14 @@ use borrow.Author.Rules.{rules}
 use Rattle.tree_insert.proofs.slots.next_generation.Statement.{statement}
 use Rattle.tree_insert.proofs.slots.next_generation.Tie as tie
 
-add-result : tie.Need-overflow-add-result
-add-result c = search rules
+overflow_add-result : tie.Need-overflow_add-result
+overflow_add-result c = search rules
 
-returns : tie.Need-returns
-returns c = rw (lt-ltb c.before.args.generation 4294967295 c.if1.true)
+returns-then-generation-lt4294967295 : tie.Need-returns-then-generation-lt4294967295
+returns-then-generation-lt4294967295 c = rw (lt-ltb c.args.generation 4294967295 c.if-generation-lt4294967295.true)
 
-returns-2 : tie.Need-returns-2
-returns-2 c = rw (le-ltb c.before.args.generation 4294967295 (omega arith))
+returns-else-generation-lt4294967295 : tie.Need-returns-else-generation-lt4294967295
+returns-else-generation-lt4294967295 c = rw (le-ltb c.args.generation 4294967295 (omega arith))
 
-pub next-generation-spec : {M : Type 1} → statement M
-next-generation-spec = tie.close (tie.spec add-result returns returns-2)
+pub next_generation_spec : {M : Type 1} → statement M
+next_generation_spec = tie.close (tie.spec overflow_add-result returns-then-generation-lt4294967295 returns-else-generation-lt4294967295)

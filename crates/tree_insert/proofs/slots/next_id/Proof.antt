@@ -4,49 +4,49 @@ use borrow.Author.Rules.{rules}
 use Rattle.tree_insert.proofs.slots.next_id.Statement.{statement}
 use Rattle.tree_insert.proofs.slots.next_id.Tie as tie
 
-cast-t7 : tie.Need-overflow-cast-t7
-cast-t7 c = search rules
+overflow_cast-result : tie.Need-overflow_cast-result
+overflow_cast-result c = search rules
+
+returns-then-frees-eq0 : tie.Need-returns-then-frees-eq0
+returns-then-frees-eq0 c = unused_id c.args.t1 c.if-frees-eq0.true
+
+overflow_sub-x : tie.Need-overflow_sub-x
+overflow_sub-x c = search rules
+
+offset_bounds-s-frees : tie.Need-offset_bounds-s-frees
+offset_bounds-s-frees c = search rules
+
+bounds-s-frees : tie.Need-bounds-s-frees
+bounds-s-frees c = search rules
+
+overflow_cast-x : tie.Need-overflow_cast-x
+overflow_cast-x c = search rules
+
+offset_bounds-s-x : tie.Need-offset_bounds-s-x
+offset_bounds-s-x c = omega (arith, last_slot c.args.t1 c.if-frees-eq0.false, c.requires)
+
+bounds-s-x : tie.Need-bounds-s-x
+bounds-s-x c = omega (arith, last_slot c.args.t1 c.if-frees-eq0.false, c.requires)
+
+next_generation-requires : tie.Need-next_generation-requires
+next_generation-requires c κs = search rules
 
 returns : tie.Need-returns
-returns c = unused_id c.before.args.t1 c.if1.true
-
-sub-x : tie.Need-overflow-sub-x
-sub-x c = search rules
-
-mul-x : tie.Need-overflow-mul-x
-mul-x c = search rules
-
-element-copy-out-x : tie.Need-element-copy-out-x
-element-copy-out-x c = search rules
-
-cast-next-generation : tie.Need-overflow-cast-next-generation
-cast-next-generation c = search rules
-
-mul-next-generation : tie.Need-overflow-mul-next-generation
-mul-next-generation c = omega (arith, last_slot c.before.before.args.t1 c.before.if1.false, c.before.before.requires)
-
-element-copy-out-next-generation : tie.Need-element-copy-out-next-generation
-element-copy-out-next-generation c = omega (arith, last_slot c.before.before.args.t1 c.before.if1.false, c.before.before.requires)
-
-next-generation-requires : tie.Need-next-generation-requires
-next-generation-requires c κs = search rules
-
-returns-2 : tie.Need-returns-2
-returns-2 c =
+returns c =
     let e = c.before.before.before in
-    freed_id e.before.args.t1 e.if1.false c.next-generation.result c.next-generation.ensures
+    freed_id e.args.t1 e.if-frees-eq0.false c.next_generation.result c.next_generation.ensures
 
-pub next-id-spec : {M : Type 1} → statement M
-next-id-spec =
+pub next_id_spec : {M : Type 1} → statement M
+next_id_spec =
     tie.close
     (tie.spec
-    cast-t7
-    returns
-    sub-x
-    mul-x
-    element-copy-out-x
-    cast-next-generation
-    mul-next-generation
-    element-copy-out-next-generation
-    next-generation-requires
-    returns-2)
+    overflow_cast-result
+    returns-then-frees-eq0
+    overflow_sub-x
+    offset_bounds-s-frees
+    bounds-s-frees
+    overflow_cast-x
+    offset_bounds-s-x
+    bounds-s-x
+    next_generation-requires
+    returns)

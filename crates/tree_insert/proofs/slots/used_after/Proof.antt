@@ -3,14 +3,14 @@ use borrow.Author.Rules.{rules}
 use Rattle.tree_insert.proofs.slots.used_after.Statement.{statement}
 use Rattle.tree_insert.proofs.slots.used_after.Tie as tie
 
-add-result : tie.Need-overflow-add-result
-add-result c = search rules
+overflow_add-result : tie.Need-overflow_add-result
+overflow_add-result c = search rules
 
-returns : tie.Need-returns
-returns c = rw (eq-eqb c.before.args.frees 0 c.if1.true)
+returns-then-frees-eq0 : tie.Need-returns-then-frees-eq0
+returns-then-frees-eq0 c = rw (eq-eqb c.args.frees 0 c.if-frees-eq0.true)
 
-returns-2 : tie.Need-returns-2
-returns-2 c = rw (ne_eqb c.before.args.frees 0 c.if1.false)
+returns-else-frees-eq0 : tie.Need-returns-else-frees-eq0
+returns-else-frees-eq0 c = rw (ne_eqb c.args.frees 0 c.if-frees-eq0.false)
 
-pub used-after-spec : {M : Type 1} → statement M
-used-after-spec = tie.close (tie.spec add-result returns returns-2)
+pub used_after_spec : {M : Type 1} → statement M
+used_after_spec = tie.close (tie.spec overflow_add-result returns-then-frees-eq0 returns-else-frees-eq0)

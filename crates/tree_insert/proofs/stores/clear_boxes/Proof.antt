@@ -4,17 +4,17 @@ use borrow.Author.Rules.{rules}
 use Rattle.tree_insert.proofs.stores.clear_boxes.Statement.{statement}
 use Rattle.tree_insert.proofs.stores.clear_boxes.Tie as tie
 
-put-rect-requires : tie.Need-put-rect-requires
-put-rect-requires c κs = search rules
+put_rect-requires : tie.Need-put_rect-requires
+put_rect-requires c κs = search rules
 
-put-rect-requires-2 : tie.Need-put-rect-requires-2
-put-rect-requires-2 c κs = search rules
+put_rect-requires-2 : tie.Need-put_rect-requires-2
+put_rect-requires-2 c κs = search rules
 
 returns : tie.Need-returns
 unfolding of_bits of_fields odd
 returns c =
     let Z = c.before.before.before.before in
-    cleared Z.args.t1 Z.args.x c.before.before.put-rect.new.0 c.put-rect2.new.0 c.before.before.put-rect.ensures c.put-rect2.ensures
+    cleared Z.args.t1 Z.args.x c.put_rect.new.0 c.put_rect-2.new.0 c.put_rect.ensures c.put_rect-2.ensures
 
-pub clear-boxes-spec : {M : Type 1} → statement M
-clear-boxes-spec = tie.close (tie.spec put-rect-requires put-rect-requires-2 returns)
+pub clear_boxes_spec : {M : Type 1} → statement M
+clear_boxes_spec = tie.close (tie.spec put_rect-requires put_rect-requires-2 returns)

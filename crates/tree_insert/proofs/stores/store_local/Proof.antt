@@ -5,35 +5,35 @@ use borrow.Author.Rules.{rules, sfits_of}
 use Rattle.tree_insert.proofs.stores.store_local.Statement.{statement}
 use Rattle.tree_insert.proofs.stores.store_local.Tie as tie
 
-construct-requires : tie.Need-construct-requires
-construct-requires c κs = search rules
+construct-clip-requires : tie.Need-construct-clip-requires
+construct-clip-requires c κs = search rules
 
-put-rect-requires : tie.Need-put-rect-requires
-put-rect-requires c κs = search rules
+put_rect-requires : tie.Need-put_rect-requires
+put_rect-requires c κs = search rules
 
-put-insets-requires : tie.Need-put-insets-requires
-put-insets-requires c κs = search rules
+put_insets-requires : tie.Need-put_insets-requires
+put_insets-requires c κs = search rules
 
-put-affine-requires : tie.Need-put-affine-requires
-put-affine-requires c κs = search rules
+put_affine-requires : tie.Need-put_affine-requires
+put_affine-requires c κs = search rules
 
-put-clip-requires : tie.Need-put-clip-requires
-put-clip-requires c κs = search rules
+put_clip-requires : tie.Need-put_clip-requires
+put_clip-requires c κs = search rules
 
-clip-kind-requires : tie.Need-clip-kind-requires
-clip-kind-requires c κs = search rules
+clip_kind-requires : tie.Need-clip_kind-requires
+clip_kind-requires c κs = search rules
 
-element-write-l : tie.Need-element-write-l
-element-write-l c = search rules
+bounds-l-x : tie.Need-bounds-l-x
+bounds-l-x c = search rules
 
-mul-z : tie.Need-overflow-mul-z
-mul-z c = search rules
+offset_bounds-l-x : tie.Need-offset_bounds-l-x
+offset_bounds-l-x c = search rules
 
-element-set-from-z : tie.Need-element-set-from-z
-element-set-from-z c = search rules
+bounds-l-x-2 : tie.Need-bounds-l-x-2
+bounds-l-x-2 c = search rules
 
-element-write-l-2 : tie.Need-element-write-l-2
-element-write-l-2 c = search rules
+bounds-l-x-3 : tie.Need-bounds-l-x-3
+bounds-l-x-3 c = search rules
 
 returns : tie.Need-returns
 returns c =
@@ -42,22 +42,22 @@ returns c =
     let i = a.before.before in
     let r = i.before.before in
     let k = r.before.before.before.before.before.before.before in
-    let A = k.before.args in
-    local_stored A.t1 A.x A.v k.construct.result c.clip-kind.result _ r.put-rect.new.0 i.put-insets.new.0 a.put-affine.new.0 p.put-clip.new.0
-    k.construct.ensures c.clip-kind.ensures (to_z-of_z w32 A.v.z_index (sfits_of k.before.well-formed.1.1.0.1.1.1.1.1.1.0.1)) r.put-rect.ensures i.put-insets.ensures a.put-affine.ensures p.put-clip.ensures
+    let A = k.args in
+    local_stored A.t1 A.x A.v k.construct-clip.result c.clip_kind.result _ r.put_rect.new.0 i.put_insets.new.0 a.put_affine.new.0 p.put_clip.new.0
+    k.construct-clip.ensures c.clip_kind.ensures (to_z-of_z w32 A.v.z_index (sfits_of k.well_formed.1.1.0.1.1.1.1.1.1.0.1)) r.put_rect.ensures i.put_insets.ensures a.put_affine.ensures p.put_clip.ensures
 
-pub store-local-spec : {M : Type 1} → statement M
-store-local-spec =
+pub store_local_spec : {M : Type 1} → statement M
+store_local_spec =
     tie.close
     (tie.spec
-    construct-requires
-    put-rect-requires
-    put-insets-requires
-    put-affine-requires
-    put-clip-requires
-    clip-kind-requires
-    element-write-l
-    mul-z
-    element-set-from-z
-    element-write-l-2
+    construct-clip-requires
+    put_rect-requires
+    put_insets-requires
+    put_affine-requires
+    put_clip-requires
+    clip_kind-requires
+    bounds-l-x
+    offset_bounds-l-x
+    bounds-l-x-2
+    bounds-l-x-3
     returns)

@@ -11,43 +11,43 @@ use Rattle.tree_insert.proofs.verdict.test.Statement.{statement}
 use Rattle.tree_insert.proofs.verdict.test.Tie as tie
 
 -- before the tables are lent
-abbrev start : tie.After-sound-tables → tie.Start
-start c = c.before.before.before.before.before.before.before.before.before.before.before.before.before.before.before.before.before.before.before.before.before.before.before.before.before
+abbrev start : tie.After-sound_tables-sound → tie.Start
+start c = c
 
-sound-tables-requires : tie.Need-sound-tables-requires
-sound-tables-requires c κs =
-    let s = c.before.before.before.before.before.before.before.before.before.before.before.before.before.before.before.before.before.before.before.before.before.before.before.before in
-    let l = sized s.args.t1 s.well-formed.0 in
+sound_tables-sound-requires : tie.Need-sound_tables-sound-requires
+sound_tables-sound-requires c κs =
+    let s = c in
+    let l = sized s.args.t1 s.well_formed.0 in
     (l.order, l.depth, l.free, l.mark, l.entries_free, l.dirty)
 
-check-requires : tie.Need-check-requires
-check-requires c κs = search rules
+check-held-requires : tie.Need-check-held-requires
+check-held-requires c κs = search rules
 
 -- the first test is `held`
-told : (c : tie.After-check) → c.check.result ≡ held (start c.before).args.t1
-told c = c.check.ensures ∙ ap (λ (b : Bool). checked is.Accepted b no.Unsound) (c.before.sound-tables.ensures (start c.before).args.t1)
+told : (c : tie.After-check-held) → c.check-held.result ≡ held (start c.before).args.t1
+told c = c.check-held.ensures ∙ ap (λ (b : Bool). checked is.Accepted b no.Unsound) (c.sound_tables-sound.ensures (start c.before).args.t1)
 
-of-parent-requires : tie.Need-of-parent-requires
-of-parent-requires c κs =
+of_parent-linked-requires : tie.Need-of_parent-linked-requires
+of_parent-linked-requires c κs =
     let k = c.before.before.before in
     let s = start k.before in
     let l = sized s.args.t1 s.good.0 in
     λ e. live_needs s.args.t1 l (held_accepted s.args.t1 l (sym (told k) ∙ e))
 
-is-finite-requires : tie.Need-is-finite-requires
-is-finite-requires c κs = search rules
+is_finite-requires : tie.Need-is_finite-requires
+is_finite-requires c κs = search rules
 
-check-requires-2 : tie.Need-check-requires-2
-check-requires-2 c κs = search rules
+check-finite-requires : tie.Need-check-finite-requires
+check-finite-requires c κs = search rules
 
-is-known-requires : tie.Need-is-known-requires
-is-known-requires c κs = search rules
+is_known-requires : tie.Need-is_known-requires
+is_known-requires c κs = search rules
 
-check-requires-3 : tie.Need-check-requires-3
-check-requires-3 c κs = search rules
+check-known-requires : tie.Need-check-known-requires
+check-known-requires c κs = search rules
 
-check-requires-4 : tie.Need-check-requires-4
-check-requires-4 c κs = search rules
+check-requires : tie.Need-check-requires
+check-requires c κs = search rules
 
 returns : tie.Need-returns
 returns c =
@@ -56,18 +56,18 @@ returns c =
     let p = f.before.before in
     let h = p.before.before.before.before in
     let A = (start h.before).args in
-    rw (c.check4.ensures, k.check3.ensures, k.before.is_Known.ensures, f.check2.ensures, f.before.is_finite.ensures, p.of-parent.ensures, told h, parent_in_lem A.t1 A.parent)
+    rw (c.check.ensures, k.check-known.ensures, k.is_Known.ensures, f.check-finite.ensures, f.is_finite.ensures, p.of_parent-linked.ensures, told h, parent_in_lem A.t1 A.parent)
 
-pub test-spec : {M : Type 1} → statement M
-test-spec =
+pub test_spec : {M : Type 1} → statement M
+test_spec =
     tie.close
     (tie.spec
-    sound-tables-requires
+    sound_tables-sound-requires
+    check-held-requires
+    of_parent-linked-requires
+    is_finite-requires
+    check-finite-requires
+    is_known-requires
+    check-known-requires
     check-requires
-    of-parent-requires
-    is-finite-requires
-    check-requires-2
-    is-known-requires
-    check-requires-3
-    check-requires-4
     returns)

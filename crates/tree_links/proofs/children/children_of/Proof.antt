@@ -8,56 +8,56 @@ use Rattle.tree_links.proofs.children.Children.{refused, answered, children_acce
 use Rattle.tree_links.proofs.children.children_of.Statement.{statement}
 use Rattle.tree_links.proofs.children.children_of.Tie as tie
 
-of-node-requires : tie.Need-of-node-requires
-of-node-requires c κs = search rules
+of_node-held-requires : tie.Need-of_node-held-requires
+of_node-held-requires c κs = search rules
 
-check-requires : tie.Need-check-requires
-check-requires c κs = search rules
+check-v-requires : tie.Need-check-v-requires
+check-v-requires c κs = search rules
 
-enum-known-v : tie.Need-enum-known-v
-enum-known-v c = search rules
+enum_known-v : tie.Need-enum_known-v
+enum_known-v c = search rules
 
 -- the verdict
-verdict : (c : tie.After-check) → let A = c.before.before.before.args in c.check.result ≡ children_verdict A.t A.id (length A.room.now)
-verdict c = rw (c.check.ensures, c.before.of_node_lem.ensures)
+verdict : (c : tie.After-check-v) → let A = c.args in c.check-v.result ≡ children_verdict A.t A.id (length A.room.now)
+verdict c = rw (c.check-v.ensures, c.of_node-held.ensures)
+
+returns-in-Refused : tie.Need-returns-in-Refused
+returns-in-Refused c =
+    let w = c.before in
+    let A = w.args in
+    refused (children_verdict A.t A.id (length A.room.now)) (children_of A.t A.id.0) A.room.now _ (sym (verdict w) ∙ c.in-Refused.is)
+
+enum_told-1 : tie.Need-enum_told-1
+enum_told-1 c = search rules
+
+yes : (c : tie.In_default) → let A = c.args in children_verdict A.t A.id (length A.room.now) ≡ is.Accepted
+yes c = sym (verdict c.before) ∙ c.in_default.is
+
+put_children-requires : tie.Need-put_children-requires
+put_children-requires c κs =
+    let s = c.before.before.before.before.before in
+    let A = s.args in
+    children_accepted A.t (sized A.t s.well_formed.0) A.id (length A.room.now) (yes c.before)
+
+shape_of-room : tie.Need-shape_of-room
+shape_of-room c = search rules
 
 returns : tie.Need-returns
 returns c =
-    let w = c.before.before.before in
-    let A = w.before.before.before.args in
-    refused (children_verdict A.t A.id (length A.room.now)) (children_of A.t A.id.0) A.room.now _ (sym (verdict w) ∙ c.before.v.given.1)
-
-enum_told : tie.Need-enum-told
-enum_told c = search rules
-
-yes : (c : tie.After-enum-told) → let A = c.before.before.before.before.before.args in children_verdict A.t A.id (length A.room.now) ≡ is.Accepted
-yes c = sym (verdict c.before.before) ∙ c.enum_told.given.1
-
-put-children-requires : tie.Need-put-children-requires
-put-children-requires c κs =
-    let s = c.before.before.before.before.before.before in
-    let A = s.args in
-    children_accepted A.t (sized A.t s.well-formed.0) A.id (length A.room.now) (yes c.before)
-
-same_length : tie.Need-same-length
-same_length c = search rules
-
-returns-2 : tie.Need-returns-2
-returns-2 c =
     let e = c.before.before.before.before in
-    let A = e.before.before.before.before.before.args in
-    let P = c.before.before.put-children in
+    let A = e.args in
+    let P = c.put_children in
     answered (children_verdict A.t A.id (length A.room.now)) (children_of A.t A.id.0) A.room.now _ _ (yes e) P.ensures.0 P.ensures.1
 
-pub children-of-spec : {M : Type 1} → statement M
-children-of-spec =
+pub children_of_spec : {M : Type 1} → statement M
+children_of_spec =
     tie.close
     (tie.spec
-    of-node-requires
-    check-requires
-    enum-known-v
-    returns
-    enum_told
-    put-children-requires
-    same_length
-    returns-2)
+    of_node-held-requires
+    check-v-requires
+    enum_known-v
+    returns-in-Refused
+    enum_told-1
+    put_children-requires
+    shape_of-room
+    returns)

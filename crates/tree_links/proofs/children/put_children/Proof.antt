@@ -9,68 +9,68 @@ use Rattle.tree_links.proofs.children.Children.{below, below_low, found_lows, pu
 use Rattle.tree_links.proofs.children.put_children.Statement.{statement}
 use Rattle.tree_links.proofs.children.put_children.Tie as tie
 
-position-requires : tie.Need-position-requires
-position-requires c κs =
-    let s = c.before.before.before in
+position-at-requires : tie.Need-position-at-requires
+position-at-requires c κs =
+    let s = c in
     let t = s.args.t1 in
-    find_needs t (sized t s.well-formed.0) s.requires.0 s.args.x s.requires.1
+    find_needs t (sized t s.well_formed.0) s.requires.0 s.args.x s.requires.1
 
 -- ---- ways back
 
-abbrev from-position : tie.After-position → tie.Start
-from-position c = c.before.before.before.before
+abbrev from_position : tie.After-position-at → tie.Start
+from_position c = c
 
-abbrev from_end : tie.After-segment-end → tie.After-position
+abbrev from_end : tie.After-segment_end-e → tie.After-position-at
 from_end c = c.before.before.before
 
-abbrev from-depth : tie.After-depth-at → tie.After-segment-end
-from-depth c = c.before.before.before
+abbrev from_depth : tie.After-depth_at-d → tie.After-segment_end-e
+from_depth c = c.before.before.before
 
-abbrev from-children : tie.After-children → tie.After-depth-at
-from-children c = c.before.before.before.before.before
+abbrev from_children : tie.After-children-m → tie.After-depth_at-d
+from_children c = c.before.before.before.before.before
 
 -- the node's own place is one of the table
-inside : (c : tie.After-position) → let s = from-position c in (c.position.result < s.args.t1.links.count) × (s.args.t1.links.count ≤ 256)
+inside : (c : tie.After-position-at) → let s = from_position c in (c.position-at.result < s.args.t1.links.count) × (s.args.t1.links.count ≤ 256)
 inside c =
-    let s = from-position c in
+    let s = from_position c in
     let t = s.args.t1 in
     let z = sized t s.good.0 in
-    (omega (arith, c.position.ensures.1, place_in t z s.pre.0 s.args.x s.pre.1), (find_needs t z s.pre.0 s.args.x s.pre.1).0)
+    (omega (arith, c.position-at.ensures.1, place_in t z s.pre.0 s.args.x s.pre.1), (find_needs t z s.pre.0 s.args.x s.pre.1).0)
 
-segment-end-requires : tie.Need-segment-end-requires
-segment-end-requires c κs =
+segment_end-e-requires : tie.Need-segment_end-e-requires
+segment_end-e-requires c κs =
     let p = c.before.before in
-    let s = from-position p in
+    let s = from_position p in
     ((inside p).0, (inside p).1, (sized s.args.t1 s.good.0).depth)
 
-depth-at-requires : tie.Need-depth-at-requires
-depth-at-requires c κs = let p = from_end c.before.before in omega (arith, inside p)
+depth_at-d-requires : tie.Need-depth_at-d-requires
+depth_at-d-requires c κs = let p = from_end c.before.before in omega (arith, inside p)
 
-add-children : tie.Need-overflow-add-children
-add-children c =
+overflow_add-d : tie.Need-overflow_add-d
+overflow_add-d c =
     let d = c.before.before.before in
-    let p = from_end (from-depth d) in
-    let s = from-position p in
+    let p = from_end (from_depth d) in
+    let s = from_position p in
     let t = s.args.t1 in
-    let h : d.depth_at_lem.result ≤ 256 =
-    rw (d.depth_at_lem.ensures, p.position.ensures.1) (depth_low t (sized t s.good.0) s.pre.0 s.args.x s.pre.1) in
+    let h : d.depth_at-d.result ≤ 256 =
+    rw (d.depth_at-d.ensures, p.position.ensures.1) (depth_low t (sized t s.good.0) s.pre.0 s.args.x s.pre.1) in
     search rules
 
-children-requires : tie.Need-children-requires
-children-requires c κs =
-    let e = from-depth c.before.before.before.before in
+children-m-requires : tie.Need-children-m-requires
+children-m-requires c κs =
+    let e = from_depth c.before.before.before.before in
     let p = from_end e in
-    let s = from-position p in
+    let s = from_position p in
     let z = sized s.args.t1 s.good.0 in
     (omega (arith, e.segment-end.ensures.0), omega (arith, e.segment-end.ensures.1, (inside p).1), z.order, z.depth, refl)
 
-put-ids-requires : tie.Need-put-ids-requires
-put-ids-requires c κs =
+put_ids-requires : tie.Need-put_ids-requires
+put_ids-requires c κs =
     let k = c.before.before.before.before in
-    let d = from-children k in
-    let e = from-depth d in
+    let d = from_children k in
+    let e = from_depth d in
     let p = from_end e in
-    let s = from-position p in
+    let s = from_position p in
     let t = s.args.t1 in
     let g = sound_places t (sized t s.good.0) s.pre.0 in
     let l = below_low t s.args.x p.position.result e.segment-end.result d.depth_at_lem.result p.position.ensures.1 e.segment-end.ensures.2 d.depth_at_lem.ensures t.links.count g.2 e.segment-end.ensures.1 in (
@@ -80,28 +80,28 @@ put-ids-requires c κs =
       found_lows (below t s.args.x p.position.result e.segment-end.result d.depth_at_lem.result p.position.ensures.1 e.segment-end.ensures.2 d.depth_at_lem.ensures) _ k.children.result k.children.new.1.1.1.1.1.0 k.children.ensures.1.1 k.children.ensures.0.1 l,
     )
 
-same_length : tie.Need-same-length
-same_length c = search rules
+shape_of-room : tie.Need-shape_of-room
+shape_of-room c = search rules
 
 returns : tie.Need-returns
 returns c =
-    let P = c.before.before.put-ids in
+    let P = c.put_ids in
     let k = c.before.before.before.before.before.before.before in
-    let d = from-children k in
-    let e = from-depth d in
+    let d = from_children k in
+    let e = from_depth d in
     let p = from_end e in
-    let s = from-position p in
+    let s = from_position p in
     put_done s.args.t1 s.args.x p.position.result e.segment-end.result d.depth_at_lem.result p.position.ensures.1 e.segment-end.ensures.2 d.depth_at_lem.ensures s.args.room.now P.new.1.1.1.0 k.children.new.1.1.1.1.1.0 _ k.children.result k.children.ensures.1.1 k.children.ensures.0.1 P.ensures
 
-pub put-children-spec : {M : Type 1} → statement M
-put-children-spec =
+pub put_children_spec : {M : Type 1} → statement M
+put_children_spec =
     tie.close
     (tie.spec
-    position-requires
-    segment-end-requires
-    depth-at-requires
-    add-children
-    children-requires
-    put-ids-requires
-    same_length
+    position-at-requires
+    segment_end-e-requires
+    depth_at-d-requires
+    overflow_add-d
+    children-m-requires
+    put_ids-requires
+    shape_of-room
     returns)

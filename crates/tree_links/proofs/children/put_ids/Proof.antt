@@ -9,48 +9,48 @@ use Rattle.tree_links.proofs.children.Children.{front, front_start, front_next}
 use Rattle.tree_links.proofs.children.put_ids.Statement.{statement}
 use Rattle.tree_links.proofs.children.put_ids.Tie as tie
 
-abbrev invariant-loop : tie.invariant-loop
-invariant-loop slots n generation room₀ i₀ room i = (i ≤ n) × (n ≤ 256) × (length slots ≡ 256) × (512 ≤ length room₀) × (length room ≡ length room₀) × Low slots n × (room ≡ front generation slots room₀ i)
+abbrev invariant-loop-i : tie.invariant-loop-i
+invariant-loop-i slots n generation room₀ i₀ room i = (i ≤ n) × (n ≤ 256) × (length slots ≡ 256) × (512 ≤ length room₀) × (length room ≡ length room₀) × Low slots n × (room ≡ front generation slots room₀ i)
 
-abbrev decreases-loop : tie.decreases-loop
-decreases-loop slots n generation room₀ i₀ room i = n - i
+abbrev decreases-loop-i : tie.decreases-loop-i
+decreases-loop-i slots n generation room₀ i₀ room i = n - i
 
-loop-holds : tie.Need-loop-init invariant-loop decreases-loop
-loop-holds c =
+loop-i-init : tie.Need-loop-i-init invariant-loop-i decreases-loop-i
+loop-i-init c =
     let s = c.before in
     let A = s.args in
     (omega arith, s.requires.0, s.requires.1, s.requires.2, refl, s.requires.3, front_start A.generation.now A.slots.now A.room.now)
 
-mul-id-of : tie.Need-overflow-mul-id-of invariant-loop decreases-loop
-mul-id-of c = search rules
+offset_bounds-slots-i : tie.Need-offset_bounds-slots-i invariant-loop-i decreases-loop-i
+offset_bounds-slots-i c = search rules
 
-element-copy-out-id-of : tie.Need-element-copy-out-id-of invariant-loop decreases-loop
-element-copy-out-id-of c = omega (arith, c.loop-test.true, c.before.loop.invariant.1)
+bounds-slots-i : tie.Need-bounds-slots-i invariant-loop-i decreases-loop-i
+bounds-slots-i c = omega (arith, c.loop-i-test.true, c.loop-i.invariant.1)
 
-id-of-requires : tie.Need-id-of-requires invariant-loop decreases-loop
-id-of-requires c κs = let b = c.before in b.before.loop.invariant.5 b.before.loop.i b.loop-test.true
+id_of-id-requires : tie.Need-id_of-id-requires invariant-loop-i decreases-loop-i
+id_of-id-requires c κs = let b = c.before in b.loop-i.invariant.5 b.loop-i.i b.loop-i-test.true
 
-put-id-requires : tie.Need-put-id-requires invariant-loop decreases-loop
-put-id-requires c κs =
+put_id-requires : tie.Need-put_id-requires invariant-loop-i decreases-loop-i
+put_id-requires c κs =
     let b = c.before.before.before in
-    let I = b.before.loop.invariant in
-    (omega (arith, b.loop-test.true, I.1), omega (arith, b.loop-test.true, I.1, I.3, I.4))
+    let I = b.loop-i.invariant in
+    (omega (arith, b.loop-i-test.true, I.1), omega (arith, b.loop-i-test.true, I.1, I.3, I.4))
 
-add-i : tie.Need-overflow-add-i invariant-loop decreases-loop
-add-i c = let b = c.before.before.before.before.before.before in let h = b.loop-test.true in let k = b.before.loop.invariant.1 in search rules
+overflow_add-i : tie.Need-overflow_add-i invariant-loop-i decreases-loop-i
+overflow_add-i c = let b = c.before.before.before.before.before.before in let h = b.loop-i-test.true in let k = b.loop-i.invariant.1 in search rules
 
-loop-less : tie.Need-loop-smaller invariant-loop decreases-loop
-loop-less c = omega (arith, c.before.before.before.before.before.before.loop-test.true)
+loop-i-smaller : tie.Need-loop-i-smaller invariant-loop-i decreases-loop-i
+loop-i-smaller c = omega (arith, c.loop-i-test.true)
 
-loop-again : tie.Need-loop-preserved invariant-loop decreases-loop
-loop-again c =
-    let P = c.before.before.put_id in
-    let d = c.before.before.before.before.id-of in
+loop-i-preserved : tie.Need-loop-i-preserved invariant-loop-i decreases-loop-i
+loop-i-preserved c =
+    let P = c.put_id in
+    let d = c.id_of-id in
     let b = c.before.before.before.before.before.before in
-    let L = b.before.loop in
+    let L = b.loop-i in
     let I = L.invariant in
-    let A = b.before.before.before.args in
-    let k = b.loop-test.true in (
+    let A = b.args in
+    let k = b.loop-i-test.true in (
       omega (arith, k),
       I.1,
       I.2,
@@ -60,29 +60,29 @@ loop-again c =
       front_next A.generation.now A.slots.now A.room.now L.room P.new.0 L.i d.result (omega (arith, k, I.1, I.2)) (omega (arith, k, I.1, I.3)) I.6 d.ensures P.ensures,
     )
 
-same_length : tie.Need-same-length invariant-loop decreases-loop
-same_length c = c.before.loop.invariant.4
+shape_of-room : tie.Need-shape_of-room invariant-loop-i decreases-loop-i
+shape_of-room c = c.loop-i.invariant.4
 
-returns : tie.Need-returns invariant-loop decreases-loop
+returns : tie.Need-returns invariant-loop-i decreases-loop-i
 returns c =
-    let L = c.before.loop in
-    let A = c.before.before.before.args in
-    let e : L.i ≡ A.n = omega (arith, L.invariant.0, c.loop-test.false) in
+    let L = c.loop-i in
+    let A = c.args in
+    let e : L.i ≡ A.n = omega (arith, L.invariant.0, c.loop-i-test.false) in
     rw e at L.invariant.6
 
-pub put-ids-spec : {M : Type 1} → statement M
-put-ids-spec =
+pub put_ids_spec : {M : Type 1} → statement M
+put_ids_spec =
     tie.close
     (tie.spec
-    invariant-loop
-    decreases-loop
-    loop-holds
-    mul-id-of
-    element-copy-out-id-of
-    id-of-requires
-    put-id-requires
-    add-i
-    loop-less
-    loop-again
-    same_length
+    invariant-loop-i
+    decreases-loop-i
+    loop-i-init
+    offset_bounds-slots-i
+    bounds-slots-i
+    id_of-id-requires
+    put_id-requires
+    overflow_add-i
+    loop-i-smaller
+    loop-i-preserved
+    shape_of-room
     returns)

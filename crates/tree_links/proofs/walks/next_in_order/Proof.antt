@@ -7,72 +7,72 @@ use Rattle.tree_links.proofs.walks.Links.{find_needs, place_low, slot_low, next_
 use Rattle.tree_links.proofs.walks.next_in_order.Statement.{statement}
 use Rattle.tree_links.proofs.walks.next_in_order.Tie as tie
 
-position-requires : tie.Need-position-requires
-position-requires c κs =
-    let s = c.before.before in
+position-next-requires : tie.Need-position-next-requires
+position-next-requires c κs =
+    let s = c in
     let t = s.args.t1 in
-    find_needs t (sized t s.well-formed.0) s.requires.0 s.args.x s.requires.1
+    find_needs t (sized t s.well_formed.0) s.requires.0 s.args.x s.requires.1
 
 -- the node's own place is one of the table
-low : (c : tie.After-position) → c.position.result < 256
+low : (c : tie.After-position-next) → c.position-next.result < 256
 low c =
-    let s = c.before.before.before in
+    let s = c in
     let t = s.args.t1 in
-    omega (arith, c.position.ensures.1, place_low t (sized t s.well-formed.0) s.requires.0 s.args.x s.requires.1)
+    omega (arith, c.position-next.ensures.1, place_low t (sized t s.well_formed.0) s.requires.0 s.args.x s.requires.1)
 
-add-next : tie.Need-overflow-add-next
-add-next c = let h = low c in search rules
+overflow_add-next : tie.Need-overflow_add-next
+overflow_add-next c = let h = low c in search rules
 
-returns : tie.Need-returns
-returns c =
+returns-then-next-n : tie.Need-returns-then-next-n
+returns-then-next-n c =
     let p = c.before in
-    let s = p.before.before.before in
-    next_ends s.args.t1 s.args.x (p.position.result + 1) (ap (λ (n : ℕ). n + 1) p.position.ensures.1) c.if1.true
+    let s = p in
+    next_ends s.args.t1 s.args.x (p.position-next.result + 1) (ap (λ (n : ℕ). n + 1) p.position-next.ensures.1) c.if-next-n.true
 
 -- the next place is one of the table
-in_table : (c : tie.Else1) → c.before.position.result + 1 < c.before.before.before.before.args.t1.links.count
-in_table c = omega (arith, c.if1.false)
+in_table : (c : tie.Else-next-n) → c.position-next.result + 1 < c.args.t1.links.count
+in_table c = omega (arith, c.if-next-n.false)
 
-depth-at-requires : tie.Need-depth-at-requires
-depth-at-requires c κs =
+depth_at-requires : tie.Need-depth_at-requires
+depth_at-requires c κs =
     let e = c.before.before in
-    let s = e.before.before.before.before in
+    let s = e in
     let t = s.args.t1 in
-    omega (arith, in_table e, (find_needs t (sized t s.well-formed.0) s.requires.0 s.args.x s.requires.1).0)
+    omega (arith, in_table e, (find_needs t (sized t s.well_formed.0) s.requires.0 s.args.x s.requires.1).0)
 
-returns-2 : tie.Need-returns-2
-returns-2 c =
+returns-then-depth_at-eq1 : tie.Need-returns-then-depth_at-eq1
+returns-then-depth_at-eq1 c =
     let d = c.before in
     let e = d.before.before.before in
     let p = e.before in
-    let s = p.before.before.before in
-    next_root s.args.t1 s.args.x (p.position.result + 1) (ap (λ (n : ℕ). n + 1) p.position.ensures.1) d.depth_at_lem.result d.depth_at_lem.ensures (in_table e) c.if2.true
+    let s = p in
+    next_root s.args.t1 s.args.x (p.position-next.result + 1) (ap (λ (n : ℕ). n + 1) p.position-next.ensures.1) d.depth_at.result d.depth_at.ensures (in_table e) c.if-depth_at-eq1.true
 
-id-at-requires : tie.Need-id-at-requires
-id-at-requires c κs =
+id_at-requires : tie.Need-id_at-requires
+id_at-requires c κs =
     let e = c.before.before.before.before.before.before.before in
-    let s = e.before.before.before.before in
+    let s = e in
     let t = s.args.t1 in
-    let z = sized t s.well-formed.0 in
-    (omega (arith, in_table e, (find_needs t z s.requires.0 s.args.x s.requires.1).0), slot_low t z s.requires.0 s.args.x s.requires.1 (e.before.position.result + 1) (in_table e))
+    let z = sized t s.well_formed.0 in
+    (omega (arith, in_table e, (find_needs t z s.requires.0 s.args.x s.requires.1).0), slot_low t z s.requires.0 s.args.x s.requires.1 (e.position-next.result + 1) (in_table e))
 
-returns-3 : tie.Need-returns-3
-returns-3 c =
+returns : tie.Need-returns
+returns c =
     let f = c.before.before.before.before in
     let d = f.before in
     let e = d.before.before.before in
     let p = e.before in
-    let s = p.before.before.before in
-    next_there s.args.t1 s.args.x (p.position.result + 1) (ap (λ (n : ℕ). n + 1) p.position.ensures.1) d.depth_at_lem.result c.id-at.result d.depth_at_lem.ensures c.id-at.ensures (in_table e) f.if2.false
+    let s = p in
+    next_there s.args.t1 s.args.x (p.position-next.result + 1) (ap (λ (n : ℕ). n + 1) p.position-next.ensures.1) d.depth_at.result c.id_at.result d.depth_at.ensures c.id_at.ensures (in_table e) f.if2.false
 
-pub next-in-order-spec : {M : Type 1} → statement M
-next-in-order-spec =
+pub next_in_order_spec : {M : Type 1} → statement M
+next_in_order_spec =
     tie.close
     (tie.spec
-    position-requires
-    add-next
-    returns
-    depth-at-requires
-    returns-2
-    id-at-requires
-    returns-3)
+    position-next-requires
+    overflow_add-next
+    returns-then-next-n
+    depth_at-requires
+    returns-then-depth_at-eq1
+    id_at-requires
+    returns)

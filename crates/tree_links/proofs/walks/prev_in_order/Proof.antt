@@ -5,61 +5,61 @@ use Rattle.tree_links.proofs.walks.Links.{find_needs, place_in, place_low, slot_
 use Rattle.tree_links.proofs.walks.prev_in_order.Statement.{statement}
 use Rattle.tree_links.proofs.walks.prev_in_order.Tie as tie
 
-position-requires : tie.Need-position-requires
-position-requires c κs =
-    let s = c.before.before in
+position-at-requires : tie.Need-position-at-requires
+position-at-requires c κs =
+    let s = c in
     let t = s.args.t1 in
-    find_needs t (sized t s.well-formed.0) s.requires.0 s.args.x s.requires.1
+    find_needs t (sized t s.well_formed.0) s.requires.0 s.args.x s.requires.1
 
 -- the node's own place is one of the table
-low : (c : tie.After-position) → c.position.result < 256
+low : (c : tie.After-position-at) → c.position-at.result < 256
 low c =
-    let s = c.before.before.before in
+    let s = c in
     let t = s.args.t1 in
-    omega (arith, c.position.ensures.1, place_low t (sized t s.well-formed.0) s.requires.0 s.args.x s.requires.1)
+    omega (arith, c.position-at.ensures.1, place_low t (sized t s.well_formed.0) s.requires.0 s.args.x s.requires.1)
 
-depth-at-requires : tie.Need-depth-at-requires
-depth-at-requires c κs = low c.before.before
+depth_at-requires : tie.Need-depth_at-requires
+depth_at-requires c κs = low c.before.before
 
-returns : tie.Need-returns
-returns c =
+returns-then-depth_at-eq1 : tie.Need-returns-then-depth_at-eq1
+returns-then-depth_at-eq1 c =
     let d = c.before in
     let p = d.before.before.before in
-    let s = p.before.before.before in
-    prev_root s.args.t1 s.args.x p.position.result p.position.ensures.1 d.depth_at_lem.result d.depth_at_lem.ensures c.if1.true
+    let s = p in
+    prev_root s.args.t1 s.args.x p.position-at.result p.position-at.ensures.1 d.depth_at.result d.depth_at.ensures c.if-depth_at-eq1.true
 
 -- below a root there is a place before
-later : (c : tie.Else1) → 1 ≤ c.before.before.before.before.position.result
+later : (c : tie.Else-depth_at-eq1) → 1 ≤ c.position-at.result
 later c =
     let d = c.before in
     let p = d.before.before.before in
-    let s = p.before.before.before in
+    let s = p in
     let t = s.args.t1 in
-    let z = sized t s.well-formed.0 in
-    omega (arith, p.position.ensures.1, not_first t z s.requires.0 s.args.x s.requires.1 (λ o. c.if1.false (rw (d.depth_at_lem.ensures, p.position.ensures.1) o)))
+    let z = sized t s.well_formed.0 in
+    omega (arith, p.position-at.ensures.1, not_first t z s.requires.0 s.args.x s.requires.1 (λ o. c.if-depth_at-eq1.false (rw (d.depth_at.ensures, p.position-at.ensures.1) o)))
 
-sub-id-at : tie.Need-overflow-sub-id-at
-sub-id-at c = later c.before.before.before
+overflow_sub-at : tie.Need-overflow_sub-at
+overflow_sub-at c = later c.before.before.before
 
-id-at-requires : tie.Need-id-at-requires
-id-at-requires c κs =
+id_at-requires : tie.Need-id_at-requires
+id_at-requires c κs =
     let e = c.before.before.before in
     let p = e.before.before.before.before in
-    let s = p.before.before.before in
+    let s = p in
     let t = s.args.t1 in
-    let z = sized t s.well-formed.0 in
+    let z = sized t s.well_formed.0 in
     let k = place_in t z s.requires.0 s.args.x s.requires.1 in
-    (omega (arith, low p), slot_low t z s.requires.0 s.args.x s.requires.1 (p.position.result - 1) (omega (arith, k, later e, p.position.ensures.1)))
+    (omega (arith, low p), slot_low t z s.requires.0 s.args.x s.requires.1 (p.position-at.result - 1) (omega (arith, k, later e, p.position-at.ensures.1)))
 
-returns-2 : tie.Need-returns-2
-returns-2 c =
+returns : tie.Need-returns
+returns c =
     let e = c.before.before.before.before in
     let d = e.before in
     let p = d.before.before.before in
-    let s = p.before.before.before in
-    prev_there s.args.t1 s.args.x p.position.result p.position.ensures.1 d.depth_at_lem.result d.depth_at_lem.ensures c.id-at.result c.id-at.ensures e.if1.false
+    let s = p in
+    prev_there s.args.t1 s.args.x p.position-at.result p.position-at.ensures.1 d.depth_at.result d.depth_at.ensures c.id_at.result c.id_at.ensures e.if1.false
 
-pub prev-in-order-spec : {M : Type 1} → statement M
-prev-in-order-spec =
+pub prev_in_order_spec : {M : Type 1} → statement M
+prev_in_order_spec =
     tie.close
-    (tie.spec position-requires depth-at-requires returns sub-id-at id-at-requires returns-2)
+    (tie.spec position-at-requires depth_at-requires returns-then-depth_at-eq1 overflow_sub-at id_at-requires returns)

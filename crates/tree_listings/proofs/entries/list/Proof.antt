@@ -32,106 +32,106 @@ holding t present boxes mark payload flags bounds generation used =
     (lent.index t.index.generation mark payload t.index.aabb t.index.kept t.index.prev used t.index.free t.index.frees t.index.dirty
     t.index.queued (lent.backend present boxes))
 
-abbrev invariant-loop : tie.invariant-loop
-invariant-loop present boxes mark payload flags bounds generation used asked room₀ given n₀ k₀ room n k =
+abbrev invariant-loop-k : tie.invariant-loop-k
+invariant-loop-k present boxes mark payload flags bounds generation used asked room₀ given n₀ k₀ room n k =
     let t = holding fresh_tree present boxes mark payload flags bounds generation used in
     (k ≤ used) × (length room ≡ length room₀) × Listing (id_of t) (takes t asked given) room₀ room n k
 
-abbrev decreases-loop : tie.decreases-loop
-decreases-loop present boxes mark payload flags bounds generation used asked room₀ given n₀ k₀ room n k = used - k
+abbrev decreases-loop-k : tie.decreases-loop-k
+decreases-loop-k present boxes mark payload flags bounds generation used asked room₀ given n₀ k₀ room n k = used - k
 
 -- a tree with these tables
-abbrev tree : tie.Start invariant-loop decreases-loop → Tree → Tree
+abbrev tree : tie.Start invariant-loop-k decreases-loop-k → Tree → Tree
 tree s t =
     let A = s.args in
     holding t A.present.now A.boxes.now A.mark.now A.payload.now A.flags.now A.bounds.now A.generation.now A.used
 
-as-given-requires : tie.Need-as-given-requires invariant-loop decreases-loop
-as-given-requires c κs = search rules
+as_given-given-requires : tie.Need-as_given-given-requires invariant-loop-k decreases-loop-k
+as_given-given-requires c κs = search rules
 
-loop-holds : tie.Need-loop-init invariant-loop decreases-loop
-loop-holds c =
+loop-k-init : tie.Need-loop-k-init invariant-loop-k decreases-loop-k
+loop-k-init c =
     let s = c.before.before in
     let t = tree s fresh_tree in
-    (omega arith, refl, listing_none (id_of t) (takes t s.args.asked c.as-given.result) s.args.room.now)
+    (omega arith, refl, listing_none (id_of t) (takes t s.args.asked c.as_given-given.result) s.args.room.now)
 
-takes-requires : tie.Need-takes-requires invariant-loop decreases-loop
-takes-requires c κs = let p = c.before.before.before.before.requires in (omega (arith, c.loop-test.true, p.1), p.0)
+takes-take-requires : tie.Need-takes-take-requires invariant-loop-k decreases-loop-k
+takes-take-requires c κs = let p = c.requires in (omega (arith, c.loop-k-test.true, p.1), p.0)
 
-id-at-requires : tie.Need-id-at-requires invariant-loop decreases-loop
-id-at-requires c κs = omega (arith, c.before.loop-test.true, c.before.before.before.before.before.requires.1)
+id_at-id-requires : tie.Need-id_at-id-requires invariant-loop-k decreases-loop-k
+id_at-id-requires c κs = omega (arith, c.loop-k-test.true, c.requires.1)
 
-push-id-requires : tie.Need-push-id-requires invariant-loop decreases-loop
-push-id-requires c κs =
+push_id-n-requires : tie.Need-push_id-n-requires invariant-loop-k decreases-loop-k
+push_id-n-requires c κs =
     let T = c.before.before in
     let l = T.before in
-    let L = l.before.loop in
+    let L = l.loop-k in
     let s = l.before.before.before.before in
     let A = s.args in
     let t = tree s fresh_tree in
-    let g = l.before.before.as-given.result in
-    let k : L.k < 512 = omega (arith, l.loop-test.true, s.requires.1) in
-    let take : T.takes.result ≡ true → (L.n < 256) × (c.before.id-at.result.0 < 256) =
-    λ e. let p : takes t A.asked g L.k ≡ true = sym T.takes.ensures ∙ e in (
+    let g = l.as_given-given.result in
+    let k : L.k < 512 = omega (arith, l.loop-k-test.true, s.requires.1) in
+    let take : T.takes-take.result ≡ true → (L.n < 256) × (c.id_at-id.result.0 < 256) =
+    λ e. let p : takes t A.asked g L.k ≡ true = sym T.takes-take.ensures ∙ e in (
       omega (arith, L.invariant.2.many, slots_more (id_of t) (takes t A.asked g) A.room.now L.k p, taken_few t A.asked g s.requires.0 (L.k + 1) (omega arith)),
-      rw c.before.id-at.ensures (taken_low t A.asked g s.requires.0 L.k k p),
+      rw c.id_at-id.ensures (taken_low t A.asked g s.requires.0 L.k k p),
     ) in
     (take, omega (arith, s.requires.3, L.invariant.1))
 
-add-k : tie.Need-overflow-add-k invariant-loop decreases-loop
-add-k c = let l = c.before.before.before.before.before.before in omega (arith, l.loop-test.true, l.before.before.before.before.requires.1)
+overflow_add-k : tie.Need-overflow_add-k invariant-loop-k decreases-loop-k
+overflow_add-k c = let l = c.before.before.before.before.before.before in omega (arith, l.loop-k-test.true, l.requires.1)
 
-loop-less : tie.Need-loop-smaller invariant-loop decreases-loop
-loop-less c = omega (arith, c.before.before.before.before.before.before.loop-test.true)
+loop-k-smaller : tie.Need-loop-k-smaller invariant-loop-k decreases-loop-k
+loop-k-smaller c = omega (arith, c.loop-k-test.true)
 
-loop-again : tie.Need-loop-preserved invariant-loop decreases-loop
-loop-again c =
-    let P = c.before.before.push-id in
-    let I = c.before.before.before.before.id-at in
+loop-k-preserved : tie.Need-loop-k-preserved invariant-loop-k decreases-loop-k
+loop-k-preserved c =
+    let P = c.push_id-n in
+    let I = c.id_at-id in
     let T = c.before.before.before.before.before in
     let l = T.before in
-    let L = l.before.loop in
+    let L = l.loop-k in
     let s = l.before.before.before.before in
     let A = s.args in
     let t = tree s fresh_tree in
-    let g = l.before.before.as-given.result in
-    let k : L.k < 512 = omega (arith, l.loop-test.true, s.requires.1) in
+    let g = l.as_given-given.result in
+    let k : L.k < 512 = omega (arith, l.loop-k-test.true, s.requires.1) in
     let E = rw I.ensures at P.ensures.0 in (
-      omega (arith, l.loop-test.true),
-      ap length E ∙ push_length T.takes.result L.room L.n (id_of t L.k) ∙ L.invariant.1,
-      listing_next (id_of t) (takes t A.asked g) A.room.now L.room P.new.0 L.n P.result L.k T.takes.result L.invariant.2 s.requires.3 (taken_few t A.asked g s.requires.0 (L.k + 1) (omega arith)) T.takes.ensures E P.ensures.1,
+      omega (arith, l.loop-k-test.true),
+      ap length E ∙ push_length T.takes-take.result L.room L.n (id_of t L.k) ∙ L.invariant.1,
+      listing_next (id_of t) (takes t A.asked g) A.room.now L.room P.new.0 L.n P.result L.k T.takes-take.result L.invariant.2 s.requires.3 (taken_few t A.asked g s.requires.0 (L.k + 1) (omega arith)) T.takes-take.ensures E P.ensures.1,
     )
 
-same_length : tie.Need-same-length invariant-loop decreases-loop
-same_length c = c.before.loop.invariant.1
+shape_of-room : tie.Need-shape_of-room invariant-loop-k decreases-loop-k
+shape_of-room c = c.loop-k.invariant.1
 
-returns : tie.Need-returns invariant-loop decreases-loop
+returns : tie.Need-returns invariant-loop-k decreases-loop-k
 returns c =
     λ t.
-    let L = c.before.loop in
+    let L = c.loop-k in
     let s = c.before.before.before.before in
     let A = s.args in
-    let g = c.before.before.as-given in
+    let g = c.as_given-given in
     let T = tree s t in
     let p = takes T A.asked g.result in
-    let e : L.k ≡ A.used = omega (arith, L.invariant.0, c.loop-test.false) in
+    let e : L.k ≡ A.used = omega (arith, L.invariant.0, c.loop-k-test.false) in
     let all = listing_used (id_of T) p A.room.now L.room L.n L.k (omega (arith, s.requires.1)) (λ k h. not_taken T A.asked g.result k (s.requires.2 k (omega arith))) L.invariant.2 in
     let i : rect_nodes T A.asked A.rect ≡ map (id_of T) (slots 512 (takes T A.asked g.result)) = rw g.ensures (rect_listed T A.asked A.rect) in
     listing_ends (id_of T) p A.room.now L.room L.n 512 all refl (rect_nodes T A.asked A.rect) i
 
-pub list-spec : {M : Type 1} → statement M
-list-spec =
+pub list_spec : {M : Type 1} → statement M
+list_spec =
     tie.close
     (tie.spec
-    invariant-loop
-    decreases-loop
-    as-given-requires
-    loop-holds
-    takes-requires
-    id-at-requires
-    push-id-requires
-    add-k
-    loop-less
-    loop-again
-    same_length
+    invariant-loop-k
+    decreases-loop-k
+    as_given-given-requires
+    loop-k-init
+    takes-take-requires
+    id_at-id-requires
+    push_id-n-requires
+    overflow_add-k
+    loop-k-smaller
+    loop-k-preserved
+    shape_of-room
     returns)

@@ -6,30 +6,30 @@ use borrow.Author.Tests.{not-true, not-false}
 use Rattle.tree_listings.proofs.entries.push_id.Statement.{statement}
 use Rattle.tree_listings.proofs.entries.push_id.Tie as tie
 
-returns : tie.Need-returns
-returns c = rw (not-true c.before.before.args.take c.if1.true) (refl, refl)
+returns-then-not-take : tie.Need-returns-then-not-take
+returns-then-not-take c = rw c.if-not-take.true (refl, refl)
 
 -- the id is taken
-taken : (c : tie.Else1) → let A = c.before.before.args in (A.n < 256) × (A.x < 256)
-taken c = c.before.before.requires.0 (not-false c.before.before.args.take c.if1.false)
+taken : (c : tie.Else-not-take) → let A = c.args in (A.n < 256) × (A.x < 256)
+taken c = c.requires.0 c.if-not-take.false
 
-id-of-requires : tie.Need-id-of-requires
-id-of-requires c κs = (taken c).1
+id_of-id-requires : tie.Need-id_of-id-requires
+id_of-id-requires c κs = (taken c).1
 
-put-id-requires : tie.Need-put-id-requires
-put-id-requires c κs = let t = (taken c.before.before).0 in (omega arith, search rules)
+put_id-requires : tie.Need-put_id-requires
+put_id-requires c κs = let t = (taken c.before.before).0 in (omega arith, search rules)
 
-add-result : tie.Need-overflow-add-result
-add-result c = let t = taken c.before.before.before.before.before in search rules
+overflow_add-result : tie.Need-overflow_add-result
+overflow_add-result c = let t = taken c.before.before.before.before.before in search rules
 
-same_length : tie.Need-same-length
-same_length c = search rules
+shape_of-room : tie.Need-shape_of-room
+shape_of-room c = search rules
 
-returns-2 : tie.Need-returns-2
-returns-2 c =
+returns : tie.Need-returns
+returns c =
     let i = c.before.before.before.before in
     let e = i.before in
-    rw (not-false e.before.before.args.take e.if1.false, ← i.id-of.ensures) (c.before.before.put_id.ensures, refl)
+    rw (e.if-not-take.false, ← i.id_of-id.ensures) (c.put_id.ensures, refl)
 
-pub push-id-spec : {M : Type 1} → statement M
-push-id-spec = tie.close (tie.spec returns id-of-requires put-id-requires add-result same_length returns-2)
+pub push_id_spec : {M : Type 1} → statement M
+push_id_spec = tie.close (tie.spec returns-then-not-take id_of-id-requires put_id-requires overflow_add-result shape_of-room returns)

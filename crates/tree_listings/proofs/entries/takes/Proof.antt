@@ -9,37 +9,37 @@ use Rattle.tree_listings.proofs.entries.Entries.{visits_used}
 use Rattle.tree_listings.proofs.entries.takes.Statement.{statement}
 use Rattle.tree_listings.proofs.entries.takes.Tie as tie
 
-visited-requires : tie.Need-visited-requires
-visited-requires c κs = search rules
+visited-visited-requires : tie.Need-visited-visited-requires
+visited-visited-requires c κs = search rules
 
-returns : tie.Need-returns
-returns c = let v = c.before.visited in rw (← v.ensures, not-true v.result c.if1.true)
+returns-then-not-visited : tie.Need-returns-then-not-visited
+returns-then-not-visited c = let v = c.visited-visited in rw (← v.ensures, c.if-not-visited.true)
 
 -- the entry is visited
-there : (c : tie.Else1) → let A = c.before.before.args in visits A.present.now A.boxes.now A.mark.now A.rect A.k ≡ true
-there c = let v = c.before.visited in sym v.ensures ∙ not-false v.result c.if1.false
+there : (c : tie.Else-not-visited) → let A = c.args in visits A.present.now A.boxes.now A.mark.now A.rect A.k ≡ true
+there c = let v = c.visited-visited in sym v.ensures ∙ c.if-not-visited.false
 
 -- so its node is in the tables
-low : (c : tie.Else1) → let A = c.before.before.args in carried_by A.payload.now A.k < 256
+low : (c : tie.Else-not-visited) → let A = c.args in carried_by A.payload.now A.k < 256
 low c =
     let s = c.before.before in
     let A = s.args in
     (s.requires.1.1 A.k s.requires.0 (visits_used A.present.now A.boxes.now A.mark.now A.rect A.k (there c))).0
 
-id-at-requires : tie.Need-id-at-requires
-id-at-requires c κs = search rules
+id_at-id-requires : tie.Need-id_at-id-requires
+id_at-id-requires c κs = search rules
 
-cast-x : tie.Need-overflow-cast-x
-cast-x c = search rules
+overflow_cast-x : tie.Need-overflow_cast-x
+overflow_cast-x c = search rules
 
-element-copy-out-t18 : tie.Need-element-copy-out-t18
-element-copy-out-t18 c = rw c.before.id-at.ensures (low c.before.before)
+bounds-flags-x : tie.Need-bounds-flags-x
+bounds-flags-x c = rw c.id_at-id.ensures (low c.before.before)
 
-rect-at-requires : tie.Need-rect-at-requires
-rect-at-requires c κs = rw c.before.before.id-at.ensures (low c.before.before.before)
+rect_at-requires : tie.Need-rect_at-requires
+rect_at-requires c κs = rw c.id_at-id.ensures (low c.before.before.before)
 
-rect-to-aabb-requires : tie.Need-rect-to-aabb-requires
-rect-to-aabb-requires c κs = search rules
+rect_to_aabb-world-requires : tie.Need-rect_to_aabb-world-requires
+rect_to_aabb-world-requires c κs = search rules
 
 contains-requires : tie.Need-contains-requires
 contains-requires c κs = search rules
@@ -47,11 +47,11 @@ contains-requires c κs = search rules
 overlaps-requires : tie.Need-overlaps-requires
 overlaps-requires c κs = search rules
 
-returns-2 : tie.Need-returns-2
+returns : tie.Need-returns
 unfolding meets
-returns-2 c =
+returns c =
     let e = c.before.before.before.before.before.before.before in
-    rw (there e, c.overlaps.ensures, c.before.contains.ensures, c.before.before.rect-to-aabb.ensures, c.before.before.before.rect-at.ensures, c.before.before.before.before.before.before.id-at.ensures)
+    rw (there e, c.overlaps.ensures, c.contains.ensures, c.rect_to_aabb-world.ensures, c.rect_at.ensures, c.id_at-id.ensures)
 
-pub takes-spec : {M : Type 1} → statement M
-takes-spec = tie.close (tie.spec visited-requires returns id-at-requires cast-x element-copy-out-t18 rect-at-requires rect-to-aabb-requires contains-requires overlaps-requires returns-2)
+pub takes_spec : {M : Type 1} → statement M
+takes_spec = tie.close (tie.spec visited-visited-requires returns-then-not-visited id_at-id-requires overflow_cast-x bounds-flags-x rect_at-requires rect_to_aabb-world-requires contains-requires overlaps-requires returns)

@@ -7,42 +7,42 @@ use Rattle.tree_readings.specs.answers.Answers.{insets_if}
 use Rattle.tree_readings.proofs.boxes.hit_slop.Statement.{statement}
 use Rattle.tree_readings.proofs.boxes.hit_slop.Tie as tie
 
-of-node-requires : tie.Need-of-node-requires
-of-node-requires c κs = search rules
+of_node-requires : tie.Need-of_node-requires
+of_node-requires c κs = search rules
 
-enum-known-r : tie.Need-enum-known-r
-enum-known-r c = search rules
+enum_known-r : tie.Need-enum_known-r
+enum_known-r c = search rules
 
-enum_told : tie.Need-enum-told
-enum_told c = search rules
+enum_told-1 : tie.Need-enum_told-1
+enum_told-1 c = search rules
 
-cast-insets-at : tie.Need-overflow-cast-insets-at
-cast-insets-at c = search rules
+overflow_cast-id : tie.Need-overflow_cast-id
+overflow_cast-id c = search rules
 
-insets-at-requires : tie.Need-insets-at-requires
-insets-at-requires c κs =
-    let e = c.before.before.before in
+insets_at-requires : tie.Need-insets_at-requires
+insets_at-requires c κs =
+    let e = c in
     let n = e.before.before in
-    let s = n.before in
-    let told = sym n.of_node_lem.ensures ∙ e.enum_told.given.1 in
-    (node_accepted s.args.t1 (sized s.args.t1 s.well-formed.0) s.args.id told).slot_low
+    let s = n in
+    let told = sym n.of_node.ensures ∙ e.in-Accepted.is in
+    (node_accepted s.args.t1 (sized s.args.t1 s.well_formed.0) s.args.id told).slot_low
 
-returns : tie.Need-returns
+returns-in-Refused : tie.Need-returns-in-Refused
 unfolding insets_if
-returns c = let n = c.before.before.before in rw (← n.of_node_lem.ensures, c.before.r.given.1)
+returns-in-Refused c = let n = c.before in rw (← n.of_node.ensures, c.in-Refused.is)
 
-returns-2 : tie.Need-returns-2
+returns-in-Accepted : tie.Need-returns-in-Accepted
 unfolding insets_if local_at
-returns-2 c = let e = c.before.before.before.before in rw (← e.before.before.of_node_lem.ensures, e.enum_told.given.1, c.insets-at.ensures)
+returns-in-Accepted c = let e = c in rw (← e.of_node.ensures, e.in-Accepted.is, c.insets_at.ensures)
 
-pub hit-slop-spec : {M : Type 1} → statement M
-hit-slop-spec =
+pub hit_slop_spec : {M : Type 1} → statement M
+hit_slop_spec =
     tie.close
     (tie.spec
-    of-node-requires
-    enum-known-r
-    enum_told
-    cast-insets-at
-    insets-at-requires
-    returns
-    returns-2)
+    of_node-requires
+    enum_known-r
+    enum_told-1
+    overflow_cast-id
+    insets_at-requires
+    returns-in-Refused
+    returns-in-Accepted)

@@ -8,51 +8,51 @@ use Rattle.tree_readings.specs.answers.Answers.{clip_if}
 use Rattle.tree_readings.proofs.boxes.local_clip.Statement.{statement}
 use Rattle.tree_readings.proofs.boxes.local_clip.Tie as tie
 
-of-node-requires : tie.Need-of-node-requires
-of-node-requires c κs = search rules
+of_node-requires : tie.Need-of_node-requires
+of_node-requires c κs = search rules
 
-enum-known-r : tie.Need-enum-known-r
-enum-known-r c = search rules
+enum_known-r : tie.Need-enum_known-r
+enum_known-r c = search rules
 
-enum_told : tie.Need-enum-told
-enum_told c = search rules
+enum_told-1 : tie.Need-enum_told-1
+enum_told-1 c = search rules
 
-cast-x : tie.Need-overflow-cast-x
-cast-x c = search rules
+overflow_cast-x : tie.Need-overflow_cast-x
+overflow_cast-x c = search rules
 
 -- an accepted node's slot is one of the tables'
-low : (e : tie.After-enum-told) → e.before.before.before.args.id.0 < 256
+low : (e : tie.In-Accepted) → e.args.id.0 < 256
 low e =
-    let n = e.before.before in
+    let n = e.before in
     let s = n.before in
-    (node_accepted s.args.t1 (sized s.args.t1 s.well-formed.0) s.args.id (sym n.of_node_lem.ensures ∙ e.enum_told.given.1)).slot_low
+    (node_accepted s.args.t1 (sized s.args.t1 s.well_formed.0) s.args.id (sym n.of_node.ensures ∙ e.in-Accepted.is)).slot_low
 
-byte-at-requires : tie.Need-byte-at-requires
-byte-at-requires c κs = low c.before.before.before
+byte_at-kind-requires : tie.Need-byte_at-kind-requires
+byte_at-kind-requires c κs = low c
 
-clip-at-requires : tie.Need-clip-at-requires
-clip-at-requires c κs = low c.before.before.before.before.before.before
+clip_at-requires : tie.Need-clip_at-requires
+clip_at-requires c κs = low c.before.before.before.before.before
 
-returns : tie.Need-returns
+returns-in-Refused : tie.Need-returns-in-Refused
 unfolding clip_if
-returns c = let n = c.before.before.before in rw (← n.of_node_lem.ensures, c.before.r.given.1)
+returns-in-Refused c = let n = c.before in rw (← n.of_node.ensures, c.in-Refused.is)
 
-returns-2 : tie.Need-returns-2
+returns-in-Accepted : tie.Need-returns-in-Accepted
 unfolding clip_if local_at
-returns-2 c =
+returns-in-Accepted c =
     let b = c.before.before.before in
-    let e = b.before.before.before.before in
-    rw (← e.before.before.of_node_lem.ensures, e.enum_told.given.1, c.clip-at.ensures, b.byte_at.ensures)
+    let e = b.before.before.before in
+    rw (← e.of_node.ensures, e.in-Accepted.is, c.clip_at.ensures, b.byte_at-kind.ensures)
 
-pub local-clip-spec : {M : Type 1} → statement M
-local-clip-spec =
+pub local_clip_spec : {M : Type 1} → statement M
+local_clip_spec =
     tie.close
     (tie.spec
-    of-node-requires
-    enum-known-r
-    enum_told
-    cast-x
-    byte-at-requires
-    clip-at-requires
-    returns
-    returns-2)
+    of_node-requires
+    enum_known-r
+    enum_told-1
+    overflow_cast-x
+    byte_at-kind-requires
+    clip_at-requires
+    returns-in-Refused
+    returns-in-Accepted)

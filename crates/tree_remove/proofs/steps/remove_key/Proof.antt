@@ -8,67 +8,67 @@ use borrow.Author.Rules.{rules}
 use Rattle.tree_remove.proofs.steps.remove_key.Statement.{statement}
 use Rattle.tree_remove.proofs.steps.remove_key.Tie as tie
 
-returns : tie.Need-returns
-returns c =
-    let A = c.before.args in
-    none_removed A.committed A.key.0 A.mark.now A.free.now A.dirty.now A.frees A.queued (not-true A.committed c.if1.true)
+returns-then-not-committed : tie.Need-returns-then-not-committed
+returns-then-not-committed c =
+    let A = c.args in
+    none_removed A.committed A.key.0 A.mark.now A.free.now A.dirty.now A.frees A.queued c.if-not-committed.true
 
-committed-is : (c : tie.Else1) → c.before.args.committed ≡ true
-committed-is c = not-false c.before.args.committed c.if1.false
+committed_is : (c : tie.Else-not-committed) → c.args.committed ≡ true
+committed_is c = c.if-not-committed.false
 
-owned : (c : tie.Else1) → let A = c.before.args in Owned A.generation.now A.mark.now A.dirty.now A.queued A.key
-owned c = c.before.requires.2 (committed-is c)
+owned : (c : tie.Else-not-committed) → let A = c.args in Owned A.generation.now A.mark.now A.dirty.now A.queued A.key
+owned c = c.requires.2 (committed_is c)
 
 -- the entry that is found has no mark
-unmarked-here : (c : tie.After-found) → c.found.given.0.0.mark ≡ is.Unmarked
-unmarked-here c =
-    let k = c.before.before in
+unmarked_here : (c : tie.In-Live-2) → c.in-Live.e.mark ≡ is.Unmarked
+unmarked_here c =
+    let k = c.before in
     let z = k.before.before in
-    let A = z.before.args in
-    found_unmarked A.generation.now A.mark.now A.dirty.now A.queued A.key (owned z) A.payload.now A.aabb.now A.kept.now A.prev.now c.found.given.0.0 (sym k.look_up.ensures ∙ c.found.given.1)
+    let A = z.args in
+    found_unmarked A.generation.now A.mark.now A.dirty.now A.queued A.key (owned z) A.payload.now A.aabb.now A.kept.now A.prev.now c.in-Live.e (sym k.look_up-found.ensures ∙ c.in-Live.is)
 
-look-up-requires : tie.Need-look-up-requires
-look-up-requires c κs = search rules
+look_up-found-requires : tie.Need-look_up-found-requires
+look_up-found-requires c κs = search rules
 
-enum-known-found : tie.Need-enum-known-found
-enum-known-found c = search rules
+enum_known-found : tie.Need-enum_known-found
+enum_known-found c = search rules
 
-enum_told : tie.Need-enum-told
-enum_told c = search rules
+enum_told-1 : tie.Need-enum_told-1
+enum_told-1 c = search rules
 
-returns-2 : tie.Need-returns-2
-returns-2 c =
-    let k = c.before.before in
+returns-in_default : tie.Need-returns-in_default
+returns-in_default c =
+    let k = c.before in
     let z = k.before.before in
-    let A = z.before.args in
-    absurd (never_dead A.generation.now A.mark.now A.dirty.now A.queued A.key (owned z) A.payload.now A.aabb.now A.kept.now A.prev.now (sym k.look_up.ensures ∙ c.enum_told.given.1))
+    let A = z.args in
+    absurd (never_dead A.generation.now A.mark.now A.dirty.now A.queued A.key (owned z) A.payload.now A.aabb.now A.kept.now A.prev.now (sym k.look_up-found.ensures ∙ c.in_default.is))
 
-remove-entry-requires : tie.Need-remove-entry-requires
-remove-entry-requires c κs =
-    let d = c.before.before.before.before in
-    let z = d.before.before.before.before in
-    let P = z.before.requires in
+remove_entry-requires : tie.Need-remove_entry-requires
+remove_entry-requires c κs =
+    let d = c in
+    let z = d in
+    let P = z.requires in
     let O = owned z in
-    (O.low, P.0, P.1, O.room, λ a. absurd (not_added d.found.given.0.0.mark (unmarked-here d) a))
+    (O.low, P.0, P.1, O.room, λ a. absurd (not_added d.in-Live.e.mark (unmarked_here d) a))
 
-returns-3 : tie.Need-returns-3
-returns-3 c =
-    let d = c.before.before.before.before.before in
+returns : tie.Need-returns
+returns c =
+    let d = c in
     let z = d.before.before.before.before in
-    let A = z.before.args in
+    let A = z.args in
     let T = c.remove_entry.ensures in
-    removed A.committed A.key.0 A.mark.now A.free.now A.dirty.now A.frees A.queued d.found.given.0.0.mark
+    removed A.committed A.key.0 A.mark.now A.free.now A.dirty.now A.frees A.queued d.in-Live.e.mark
     c.remove_entry.new.0 c.remove_entry.new.1.0 c.remove_entry.new.1.1.0 c.remove_entry.result.frees c.remove_entry.result.queued
-    (committed-is z) (unmarked-here d) T.0 T.1.0 T.1.1.0 T.1.1.1.0 T.1.1.1.1
+    (committed_is z) (unmarked_here d) T.0 T.1.0 T.1.1.0 T.1.1.1.0 T.1.1.1.1
 
-pub remove-key-spec : {M : Type 1} → statement M
-remove-key-spec =
+pub remove_key_spec : {M : Type 1} → statement M
+remove_key_spec =
     tie.close
     (tie.spec
-    returns
-    look-up-requires
-    enum-known-found
-    enum_told
-    returns-2
-    remove-entry-requires
-    returns-3)
+    returns-then-not-committed
+    look_up-found-requires
+    enum_known-found
+    enum_told-1
+    returns-in_default
+    remove_entry-requires
+    returns)

@@ -14,93 +14,93 @@ use Rattle.tree_rework.proofs.boxes.box_node.Statement.{statement}
 use Rattle.tree_rework.proofs.boxes.box_node.Tie as tie
 
 -- the damage, in the two parts that are pushed
-parts : (c : tie.After-eq) → let A = c.before.before.before.before.before.before.before.before.before.before.args in
+parts : (c : tie.After-eq-changed) → let A = c.args in
     damage_of (rect_at A.worlds-bounds.now A.x) (world_box A.w (rect_at A.locals-bounds.now A.x))
-    ≡ shown (not c.eq.result) c.before.before.before.before.before.before.before.rect-at.result ++ shown (not c.eq.result) c.before.before.before.world_bounds_lem.result
+    ≡ shown (not c.eq-changed.result) c.rect_at-old.result ++ shown (not c.eq-changed.result) c.world_bounds-new.result
 parts c =
-    let A = c.before.before.before.before.before.before.before.before.before.before.args in
-    rw (c.eq.ensures, c.before.before.before.world_bounds_lem.ensures, c.before.before.before.before.before.before.before.rect-at.ensures, c.before.before.before.before.rect-at3.ensures)
+    let A = c.args in
+    rw (c.eq-changed.ensures, c.world_bounds-new.ensures, c.rect_at-old.ensures, c.rect_at-own.ensures)
     (damage_parts (rect_at A.worlds-bounds.now A.x) (world_box A.w (rect_at A.locals-bounds.now A.x)))
 
 -- they have their room
-few : (c : tie.After-eq)
-    → c.before.before.before.before.before.before.before.before.before.before.args.n + length (shown (not c.eq.result) c.before.before.before.before.before.before.before.rect-at.result) + length (shown (not c.eq.result) c.before.before.before.world_bounds_lem.result) ≤ 512
-few c = omega (arith, rw (parts c) at c.before.before.before.before.before.before.before.before.before.before.requires.1, length-append (shown (not c.eq.result) c.before.before.before.before.before.before.before.rect-at.result) (shown (not c.eq.result) c.before.before.before.world_bounds_lem.result))
+few : (c : tie.After-eq-changed)
+    → c.args.n + length (shown (not c.eq-changed.result) c.rect_at-old.result) + length (shown (not c.eq-changed.result) c.world_bounds-new.result) ≤ 512
+few c = omega (arith, rw (parts c) at c.requires.1, length-append (shown (not c.eq-changed.result) c.rect_at-old.result) (shown (not c.eq-changed.result) c.world_bounds-new.result))
 
-rect-at-requires : tie.Need-rect-at-requires
-rect-at-requires c κs = search rules
+rect_at-old-requires : tie.Need-rect_at-old-requires
+rect_at-old-requires c κs = search rules
 
-rect-at-requires-2 : tie.Need-rect-at-requires-2
-rect-at-requires-2 c κs = search rules
+rect_at-old_hit-requires : tie.Need-rect_at-old_hit-requires
+rect_at-old_hit-requires c κs = search rules
 
-rect-at-requires-3 : tie.Need-rect-at-requires-3
-rect-at-requires-3 c κs = search rules
+rect_at-own-requires : tie.Need-rect_at-own-requires
+rect_at-own-requires c κs = search rules
 
-world-bounds-requires : tie.Need-world-bounds-requires
-world-bounds-requires c κs = search rules
+world_bounds-new-requires : tie.Need-world_bounds-new-requires
+world_bounds-new-requires c κs = search rules
 
-insets-at-requires : tie.Need-insets-at-requires
-insets-at-requires c κs = search rules
+insets_at-requires : tie.Need-insets_at-requires
+insets_at-requires c κs = search rules
 
-world-hit-bounds-requires : tie.Need-world-hit-bounds-requires
-world-hit-bounds-requires c κs = search rules
+world_hit_bounds-hit-requires : tie.Need-world_hit_bounds-hit-requires
+world_hit_bounds-hit-requires c κs = search rules
+
+eq-changed-requires : tie.Need-eq-changed-requires
+eq-changed-requires c κs = search rules
+
+push_area-m-requires : tie.Need-push_area-m-requires
+push_area-m-requires c κs = (omega (arith, few c.before), c.requires.2)
+
+push_area-count-requires : tie.Need-push_area-count-requires
+push_area-count-requires c κs =
+    let P = c.push_area-m.ensures in
+    (omega (arith, few c.before.before.before.before.before, P.1), laid_long c.args.room.now _ c.args.n _ 2048 P.0 c.requires.2)
+
+put_rect-requires : tie.Need-put_rect-requires
+put_rect-requires c κs = c.requires.0
+
+put_rect-requires-2 : tie.Need-put_rect-requires-2
+put_rect-requires-2 c κs = c.requires.0
 
 eq-requires : tie.Need-eq-requires
 eq-requires c κs = search rules
 
-push-area-requires : tie.Need-push-area-requires
-push-area-requires c κs = (omega (arith, few c.before), c.before.before.before.before.before.before.before.before.before.before.before.requires.2)
-
-push-area-requires-2 : tie.Need-push-area-requires-2
-push-area-requires-2 c κs =
-    let P = c.before.before.before.push-area.ensures in
-    (omega (arith, few c.before.before.before.before.before, P.1), laid_long c.before.before.before.before.before.before.before.before.before.before.before.before.before.before.before.args.room.now _ c.before.before.before.before.before.before.before.before.before.before.before.before.before.before.before.args.n _ 2048 P.0 c.before.before.before.before.before.before.before.before.before.before.before.before.before.before.before.requires.2)
-
-put-rect-requires : tie.Need-put-rect-requires
-put-rect-requires c κs = c.before.before.before.before.before.before.before.before.before.before.before.before.before.before.before.before.before.before.before.requires.0
-
-put-rect-requires-2 : tie.Need-put-rect-requires-2
-put-rect-requires-2 c κs = c.before.before.before.before.before.before.before.before.before.before.before.before.before.before.before.before.before.before.before.before.before.requires.0
-
-eq-requires-2 : tie.Need-eq-requires-2
-eq-requires-2 c κs = search rules
-
-same_length : tie.Need-same-length
-same_length c = ap length c.before.before.before.before.before.before.before.push-area2.ensures.0 ∙ laid_length _ _ _ ∙ ap length c.before.before.before.before.before.before.before.before.before.before.before.push-area.ensures.0 ∙ laid_length _ _ _
+shape_of-room : tie.Need-shape_of-room
+shape_of-room c = ap length c.push_area-count.ensures.0 ∙ laid_length _ _ _ ∙ ap length c.push_area-m.ensures.0 ∙ laid_length _ _ _
 
 returns : tie.Need-returns
 returns c =
-    let A = c.before.before.before.before.before.before.before.before.before.before.before.before.before.before.before.before.before.before.before.before.before.before.before.args in
-    let own = c.before.before.before.before.before.before.before.before.before.before.before.before.before.before.before.before.before.rect-at3.ensures in
-    let B = both_laid A.room.now _ _ A.n _ _ _ _ _ (parts c.before.before.before.before.before.before.before.before.before.before.before.before.before) c.before.before.before.before.before.before.before.before.before.before.before.push-area.ensures c.before.before.before.before.before.before.before.push-area2.ensures in (
-      c.before.before.before.put-rect.ensures ∙ rw (c.before.before.before.before.before.before.before.before.before.before.before.before.before.before.before.before.world_bounds_lem.ensures, own),
+    let A = c.args in
+    let own = c.rect_at-own.ensures in
+    let B = both_laid A.room.now _ _ A.n _ _ _ _ _ (parts c.before.before.before.before.before.before.before.before.before.before.before.before.before) c.push_area-m.ensures c.push_area-count.ensures in (
+      c.put_rect.ensures ∙ rw (c.world_bounds-new.ensures, own),
       (
-        c.before.before.before.before.before.before.before.before.before.before.before.before.before.before.world_hit_bounds_lem.ensures ∙ rw (own, c.before.before.before.before.before.before.before.before.before.before.before.before.before.before.before.insets-at.ensures),
+        c.world_hit_bounds-hit.ensures ∙ rw (own, c.insets_at.ensures),
         (
-          c.before.put-rect2.ensures,
+          c.put_rect-2.ensures,
           (
-            c.eq2.ensures ∙ rw c.before.before.before.before.before.before.before.before.before.before.before.before.before.before.before.before.before.before.rect-at2.ensures,
+            c.eq.ensures ∙ rw c.rect_at-old_hit.ensures,
             B,
           ),
         ),
       ),
     )
 
-pub box-node-spec : {M : Type 1} → statement M
-box-node-spec =
+pub box_node_spec : {M : Type 1} → statement M
+box_node_spec =
     tie.close
     (tie.spec
-    rect-at-requires
-    rect-at-requires-2
-    rect-at-requires-3
-    world-bounds-requires
-    insets-at-requires
-    world-hit-bounds-requires
+    rect_at-old-requires
+    rect_at-old_hit-requires
+    rect_at-own-requires
+    world_bounds-new-requires
+    insets_at-requires
+    world_hit_bounds-hit-requires
+    eq-changed-requires
+    push_area-m-requires
+    push_area-count-requires
+    put_rect-requires
+    put_rect-requires-2
     eq-requires
-    push-area-requires
-    push-area-requires-2
-    put-rect-requires
-    put-rect-requires-2
-    eq-requires-2
-    same_length
+    shape_of-room
     returns)

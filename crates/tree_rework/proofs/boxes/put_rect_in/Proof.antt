@@ -7,15 +7,15 @@ use Rattle.tree_rework.proofs.boxes.put_rect_in.Tie as tie
 new-requires : tie.Need-new-requires
 new-requires c κs = search rules
 
-put-box-in-requires : tie.Need-put-box-in-requires
-put-box-in-requires c κs = search rules
+put_box_in-requires : tie.Need-put_box_in-requires
+put_box_in-requires c κs = search rules
 
-same_length : tie.Need-same-length
-same_length c = search rules
+shape_of-room : tie.Need-shape_of-room
+shape_of-room c = search rules
 
 returns : tie.Need-returns
 unfolding put_box put_rect
-returns c = rw (c.before.before.put-box-in.ensures, c.before.before.before.new.ensures)
+returns c = rw (c.put_box_in.ensures, c.new.ensures)
 
-pub put-rect-in-spec : {M : Type 1} → statement M
-put-rect-in-spec = tie.close (tie.spec new-requires put-box-in-requires same_length returns)
+pub put_rect_in_spec : {M : Type 1} → statement M
+put_rect_in_spec = tie.close (tie.spec new-requires put_box_in-requires shape_of-room returns)

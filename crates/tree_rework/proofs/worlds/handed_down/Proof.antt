@@ -9,48 +9,48 @@ use Rattle.tree_rework.proofs.worlds.handed_down.Statement.{statement}
 use Rattle.tree_rework.proofs.worlds.handed_down.Tie as tie
 
 -- what the parent's number tells
-tells : (c : tie.After-parent-at) → let A = c.before.args in
-    Tells A.transform.now A.clipped.now A.clip.now c.parent_at_lem.result (above_at A.order.now A.depth.now A.at)
+tells : (c : tie.After-parent_at-parent) → let A = c.args in
+    Tells A.transform.now A.clipped.now A.clip.now c.parent_at-parent.result (above_at A.order.now A.depth.now A.at)
 tells c =
-    let A = c.before.args in
-    let P = c.before.requires in
+    let A = c.args in
+    let P = c.requires in
     let lo : A.at ≤ length A.order.now = omega (arith, P.0, P.1) in
     let ld : A.at ≤ length A.depth.now = omega (arith, P.0, P.2) in
-    rw c.parent_at_lem.ensures (found_above A.transform.now A.clipped.now A.clip.now A.order.now A.depth.now A.at lo ld P.3)
+    rw c.parent_at-parent.ensures (found_above A.transform.now A.clipped.now A.clip.now A.order.now A.depth.now A.at lo ld P.3)
 
-parent-at-requires : tie.Need-parent-at-requires
-parent-at-requires c κs = search rules
+parent_at-parent-requires : tie.Need-parent_at-parent-requires
+parent_at-parent-requires c κs = search rules
 
-at-root-requires : tie.Need-at-root-requires
-at-root-requires c κs = search rules
+at_root-requires : tie.Need-at_root-requires
+at_root-requires c κs = search rules
+
+returns-then-parent-ge256 : tie.Need-returns-then-parent-ge256
+returns-then-parent-ge256 c = c.at_root.ensures ∙ sym ((tells c.before.before).none (omega (arith, c.if-parent-ge256.true)))
+
+overflow_cast-q : tie.Need-overflow_cast-q
+overflow_cast-q c = search rules
+
+affine_at-requires : tie.Need-affine_at-requires
+affine_at-requires c κs = search rules
+
+bounds-clipped-q : tie.Need-bounds-clipped-q
+bounds-clipped-q c = search rules
+
+clip_rect_at-requires : tie.Need-clip_rect_at-requires
+clip_rect_at-requires c κs = search rules
 
 returns : tie.Need-returns
-returns c = c.at_root.ensures ∙ sym ((tells c.before.before).none (omega (arith, c.before.if1.true)))
+returns c = rw (c.affine_at.ensures, c.clip_rect_at.ensures) (sym ((tells c.before.before.before.before).one (omega (arith, c.if-parent-ge256.false))))
 
-cast-q : tie.Need-overflow-cast-q
-cast-q c = search rules
-
-affine-at-requires : tie.Need-affine-at-requires
-affine-at-requires c κs = search rules
-
-element-copy-out-clip-rect-at : tie.Need-element-copy-out-clip-rect-at
-element-copy-out-clip-rect-at c = search rules
-
-clip-rect-at-requires : tie.Need-clip-rect-at-requires
-clip-rect-at-requires c κs = search rules
-
-returns-2 : tie.Need-returns-2
-returns-2 c = rw (c.before.before.affine-at.ensures, c.clip-rect-at.ensures) (sym ((tells c.before.before.before.before).one (omega (arith, c.before.before.before.if1.false))))
-
-pub handed-down-spec : {M : Type 1} → statement M
-handed-down-spec =
+pub handed_down_spec : {M : Type 1} → statement M
+handed_down_spec =
     tie.close
     (tie.spec
-    parent-at-requires
-    at-root-requires
-    returns
-    cast-q
-    affine-at-requires
-    element-copy-out-clip-rect-at
-    clip-rect-at-requires
-    returns-2)
+    parent_at-parent-requires
+    at_root-requires
+    returns-then-parent-ge256
+    overflow_cast-q
+    affine_at-requires
+    bounds-clipped-q
+    clip_rect_at-requires
+    returns)

@@ -3,56 +3,56 @@ use borrow.Author.Rules.{rules}
 use Rattle.tree_rework.proofs.worlds.place_node.Statement.{statement}
 use Rattle.tree_rework.proofs.worlds.place_node.Tie as tie
 
-handed-down-requires : tie.Need-handed-down-requires
-handed-down-requires c κs = search rules
+handed_down-parent-requires : tie.Need-handed_down-parent-requires
+handed_down-parent-requires c κs = search rules
 
-affine-at-requires : tie.Need-affine-at-requires
-affine-at-requires c κs = search rules
+affine_at-own-requires : tie.Need-affine_at-own-requires
+affine_at-own-requires c κs = search rules
 
-element-copy-out-clip-at : tie.Need-element-copy-out-clip-at
-element-copy-out-clip-at c = search rules
+bounds-kind-x : tie.Need-bounds-kind-x
+bounds-kind-x c = search rules
 
-clip-at-requires : tie.Need-clip-at-requires
-clip-at-requires c κs = search rules
+clip_at-own_clip-requires : tie.Need-clip_at-own_clip-requires
+clip_at-own_clip-requires c κs = search rules
 
-place-requires : tie.Need-place-requires
-place-requires c κs = search rules
+place-w-requires : tie.Need-place-w-requires
+place-w-requires c κs = search rules
 
-put-affine-requires : tie.Need-put-affine-requires
-put-affine-requires c κs = search rules
+put_affine-requires : tie.Need-put_affine-requires
+put_affine-requires c κs = search rules
 
-has-clip-rect-requires : tie.Need-has-clip-rect-requires
-has-clip-rect-requires c κs = search rules
+has_clip_rect-requires : tie.Need-has_clip_rect-requires
+has_clip_rect-requires c κs = search rules
 
-element-write-clipped : tie.Need-element-write-clipped
-element-write-clipped c = search rules
+bounds-clipped-x : tie.Need-bounds-clipped-x
+bounds-clipped-x c = search rules
 
-put-clip-rect-requires : tie.Need-put-clip-rect-requires
-put-clip-rect-requires c κs = search rules
+put_clip_rect-requires : tie.Need-put_clip_rect-requires
+put_clip_rect-requires c κs = search rules
 
 returns : tie.Need-returns
 returns c = (
-  c.before.before.before.before.before.before.place.ensures ∙ rw (c.before.before.before.before.before.before.before.before.before.before.handed_down_lem.ensures, c.before.before.before.before.before.before.before.before.before.affine-at.ensures, c.before.before.before.before.before.before.before.clip-at.ensures),
+  c.place-w.ensures ∙ rw (c.handed_down-parent.ensures, c.affine_at-own.ensures, c.clip_at-own_clip.ensures),
   (
-    c.before.before.before.put-affine.ensures,
+    c.put_affine.ensures,
     (
-      rw c.before.before.has-clip-rect.ensures,
-      c.put-clip-rect.ensures,
+      rw c.has_clip_rect.ensures,
+      c.put_clip_rect.ensures,
     ),
   ),
 )
 
-pub place-node-spec : {M : Type 1} → statement M
-place-node-spec =
+pub place_node_spec : {M : Type 1} → statement M
+place_node_spec =
     tie.close
     (tie.spec
-    handed-down-requires
-    affine-at-requires
-    element-copy-out-clip-at
-    clip-at-requires
-    place-requires
-    put-affine-requires
-    has-clip-rect-requires
-    element-write-clipped
-    put-clip-rect-requires
+    handed_down-parent-requires
+    affine_at-own-requires
+    bounds-kind-x
+    clip_at-own_clip-requires
+    place-w-requires
+    put_affine-requires
+    has_clip_rect-requires
+    bounds-clipped-x
+    put_clip_rect-requires
     returns)

@@ -11,100 +11,100 @@ use Rattle.tree_setters.proofs.boxes.set_local_bounds.Tie as tie
 
 -- ---- the test, and what it gives
 
-abbrev start : tie.After-check → tie.Start
+abbrev start : tie.After-check-v → tie.Start
 start c = c.before.before.before
 
-abbrev verdict : tie.After-check → Verdict
+abbrev verdict : tie.After-check-v → Verdict
 verdict c = bounds_verdict (start c).args.t1 (start c).args.id (start c).args.bounds
 
-tested : (c : tie.After-check) → c.check.result ≡ verdict c
+tested : (c : tie.After-check-v) → c.check-v.result ≡ verdict c
 tested c =
     let A = (start c).args in
-    tested_all (of_node A.t1 A.id) c.before.before.of_node_lem.result c.check.result (finite_rect A.bounds) c.before.is_finite.result no.NotFinite
-    c.before.before.of_node_lem.ensures
-    c.before.is_finite.ensures
-    c.check.ensures
+    tested_all (of_node A.t1 A.id) c.of_node-node.result c.check-v.result (finite_rect A.bounds) c.is_finite.result no.NotFinite
+    c.of_node-node.ensures
+    c.is_finite.ensures
+    c.check-v.ensures
 
-low : (c : tie.After-enum-told) → (start c.before.before).args.id.0 < 256
+low : (c : tie.In-Accepted) → (start c.before).args.id.0 < 256
 low c =
-    let k = c.before.before in
+    let k = c.before in
     let A = (start k).args in
-    tested_low A.t1 A.id (finite_rect A.bounds) no.NotFinite k.check.result (start k).well-formed.0 (tested k) c.enum_told.given.1
+    tested_low A.t1 A.id (finite_rect A.bounds) no.NotFinite k.check-v.result (start k).well-formed.0 (tested k) c.in-Accepted.is
 
-of-node-requires : tie.Need-of-node-requires
-of-node-requires c κs = search rules
+of_node-node-requires : tie.Need-of_node-node-requires
+of_node-node-requires c κs = search rules
 
-is-finite-requires : tie.Need-is-finite-requires
-is-finite-requires c κs = search rules
+is_finite-requires : tie.Need-is_finite-requires
+is_finite-requires c κs = search rules
 
-check-requires : tie.Need-check-requires
-check-requires c κs = search rules
+check-v-requires : tie.Need-check-v-requires
+check-v-requires c κs = search rules
 
-enum_told : tie.Need-enum-told
-enum_told c = search rules
+enum_told-1 : tie.Need-enum_told-1
+enum_told-1 c = search rules
 
-enum-told-2 : tie.Need-enum-told-2
-enum-told-2 c = search rules
+enum_told-in_default : tie.Need-enum_told-in_default
+enum_told-in_default c = search rules
 
-returns : tie.Need-returns
-returns c =
-    let k = c.before.before in
-    refused (verdict k) k.check.result _ (start k).args.t1 (tested k) c.enum-told2.given.0.0 c.enum-told2.given.1
+returns-in_default : tie.Need-returns-in_default
+returns-in_default c =
+    let k = c.before in
+    refused (verdict k) k.check-v.result _ (start k).args.t1 (tested k) c.in_default.field-0 c.in_default.is
 
-cast-x : tie.Need-overflow-cast-x
-cast-x c = search rules
+overflow_cast-x : tie.Need-overflow_cast-x
+overflow_cast-x c = search rules
 
 -- the stored value
 
-abbrev from-read : tie.After-rect-at → tie.After-enum-told
-from-read c = c.before.before.before.before
+abbrev from_read : tie.After-rect_at-stored → tie.In-Accepted
+from_read c = c
 
-rect-at-requires : tie.Need-rect-at-requires
-rect-at-requires c κs = low c.before.before.before
+rect_at-stored-requires : tie.Need-rect_at-stored-requires
+rect_at-stored-requires c κs = low c
 
 eq-requires : tie.Need-eq-requires
 eq-requires c κs = search rules
 
-returns-2 : tie.Need-returns-2
-returns-2 c =
+returns-then-eq : tie.Need-returns-then-eq
+returns-then-eq c =
     let d = c.before.before in
-    let e = from-read d in
+    let e = from_read d in
     let k = e.before.before in
     let A = (start k).args in
     accepted (verdict k) k.check.result _ A.t1 (tested k) A.t1 e.enum_told.given.1
-    (bounds_stays A.t1 A.id.0 c.before.eq.result A.bounds d.rect-at.result d.rect-at.ensures c.before.eq.ensures c.if1.true)
+    (bounds_stays A.t1 A.id.0 c.eq.result A.bounds d.rect_at-stored.result d.rect_at-stored.ensures c.eq.ensures c.if-eq.true)
 
-put-rect-requires : tie.Need-put-rect-requires
-put-rect-requires c κs = low (from-read c.before.before.before)
+put_rect-requires : tie.Need-put_rect-requires
+put_rect-requires c κs = low (from_read c.before.before.before)
 
 mark-requires : tie.Need-mark-requires
-mark-requires c κs = low (from-read c.before.before.before.before.before)
+mark-requires c κs = low (from_read c.before.before.before.before.before)
 
-returns-3 : tie.Need-returns-3
-returns-3 c =
+returns : tie.Need-returns
+returns c =
     let p = c.before.before in
     let f = p.before.before in
     let d = f.before.before in
-    let e = from-read d in
+    let e = from_read d in
     let k = e.before.before in
     let A = (start k).args in
     accepted (verdict k) k.check.result _ A.t1 (tested k) _ e.enum_told.given.1
-    (bounds_done A.t1 A.id.0 f.before.eq.result A.bounds d.rect-at.result d.rect-at.ensures f.before.eq.ensures f.if1.false p.put-rect.new.0 c.mark.new.0 p.put-rect.ensures c.mark.ensures)
+    (bounds_done A.t1 A.id.0 f.eq.result A.bounds d.rect_at-stored.result d.rect_at-stored.ensures f.eq.ensures f.if-eq.false p.put_rect.new.0 c.mark.new.0 p.put_rect.ensures c.mark.ensures)
 
-pub set-local-bounds-spec : {M : Type 1} → statement M
-set-local-bounds-spec =
+pub set_local_bounds_spec : {M : Type 1} → statement M
+set_local_bounds_spec =
     tie.close
     (tie.spec
-    of-node-requires
-    is-finite-requires
-    check-requires
-    enum_told
-    enum-told-2
-    returns
-    cast-x
-    rect-at-requires
+    of_node-node-requires
+    is_finite-requires
+    check-v-requires
+    enum_told-1
+    enum_told-in_default
+    returns-in_default
+    overflow_cast-x
+    rect_at-stored-requires
     eq-requires
-    returns-2
-    put-rect-requires
+    returns-then-eq
+    put_rect-requires
     mark-requires
-    returns-3)
+    returns)

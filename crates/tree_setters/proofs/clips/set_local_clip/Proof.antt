@@ -11,122 +11,122 @@ use Rattle.tree_setters.proofs.clips.set_local_clip.Tie as tie
 
 -- ---- the test, and what it gives
 
-abbrev start : tie.After-check → tie.Start
+abbrev start : tie.After-check-v → tie.Start
 start c = c.before.before.before
 
-abbrev verdict : tie.After-check → Verdict
+abbrev verdict : tie.After-check-v → Verdict
 verdict c = clip_verdict (start c).args.t1 (start c).args.id (start c).args.clip
 
-tested : (c : tie.After-check) → c.check.result ≡ verdict c
+tested : (c : tie.After-check-v) → c.check-v.result ≡ verdict c
 tested c =
     let A = (start c).args in
-    tested_all (of_node A.t1 A.id) c.before.before.of_node_lem.result c.check.result (finite_clip A.clip) c.before.is_finite.result no.NotFinite
-    c.before.before.of_node_lem.ensures
-    c.before.is_finite.ensures
-    c.check.ensures
+    tested_all (of_node A.t1 A.id) c.of_node-node.result c.check-v.result (finite_clip A.clip) c.is_finite.result no.NotFinite
+    c.of_node-node.ensures
+    c.is_finite.ensures
+    c.check-v.ensures
 
-low : (c : tie.After-enum-told) → (start c.before.before).args.id.0 < 256
+low : (c : tie.In-Accepted) → (start c.before).args.id.0 < 256
 low c =
-    let k = c.before.before in
+    let k = c.before in
     let A = (start k).args in
-    tested_low A.t1 A.id (finite_clip A.clip) no.NotFinite k.check.result (start k).well-formed.0 (tested k) c.enum_told.given.1
+    tested_low A.t1 A.id (finite_clip A.clip) no.NotFinite k.check-v.result (start k).well-formed.0 (tested k) c.in-Accepted.is
 
-of-node-requires : tie.Need-of-node-requires
-of-node-requires c κs = search rules
+of_node-node-requires : tie.Need-of_node-node-requires
+of_node-node-requires c κs = search rules
 
-is-finite-requires : tie.Need-is-finite-requires
-is-finite-requires c κs = search rules
+is_finite-requires : tie.Need-is_finite-requires
+is_finite-requires c κs = search rules
 
-check-requires : tie.Need-check-requires
-check-requires c κs = search rules
+check-v-requires : tie.Need-check-v-requires
+check-v-requires c κs = search rules
 
-enum_told : tie.Need-enum-told
-enum_told c = search rules
+enum_told-1 : tie.Need-enum_told-1
+enum_told-1 c = search rules
 
-enum-told-2 : tie.Need-enum-told-2
-enum-told-2 c = search rules
+enum_told-in_default : tie.Need-enum_told-in_default
+enum_told-in_default c = search rules
 
-returns : tie.Need-returns
-returns c =
-    let k = c.before.before in
-    refused (verdict k) k.check.result _ (start k).args.t1 (tested k) c.enum-told2.given.0.0 c.enum-told2.given.1
+returns-in_default : tie.Need-returns-in_default
+returns-in_default c =
+    let k = c.before in
+    refused (verdict k) k.check-v.result _ (start k).args.t1 (tested k) c.in_default.field-0 c.in_default.is
 
-cast-x : tie.Need-overflow-cast-x
-cast-x c = search rules
+overflow_cast-x : tie.Need-overflow_cast-x
+overflow_cast-x c = search rules
 
 -- the stored value
 
-abbrev from-read : tie.After-stored-clip → tie.After-enum-told
-from-read c = c.before.before.before.before.before.before
+abbrev from_read : tie.After-stored_clip-stored → tie.In-Accepted
+from_read c = c
 
-abbrev made : tie.After-stored-clip → tie.After-construct
+abbrev made : tie.After-stored_clip-stored → tie.After-construct-made
 made c = c.before.before.before.before
 
-construct-requires : tie.Need-construct-requires
-construct-requires c κs = search rules
+construct-made-requires : tie.Need-construct-made-requires
+construct-made-requires c κs = search rules
 
-stored-clip-requires : tie.Need-stored-clip-requires
-stored-clip-requires c κs = low c.before.before.before.before.before
+stored_clip-stored-requires : tie.Need-stored_clip-stored-requires
+stored_clip-stored-requires c κs = low c
 
 eq-requires : tie.Need-eq-requires
 eq-requires c κs = search rules
 
-returns-2 : tie.Need-returns-2
-returns-2 c =
+returns-then-eq : tie.Need-returns-then-eq
+returns-then-eq c =
     let d = c.before.before in
-    let e = from-read d in
+    let e = from_read d in
     let k = e.before.before in
     let A = (start k).args in
     accepted (verdict k) k.check.result _ A.t1 (tested k) A.t1 e.enum_told.given.1
-    (clip_stays A.t1 A.id.0 c.before.eq.result A.clip (made d).construct.result d.stored-clip.result (made d).construct.ensures d.stored-clip.ensures c.before.eq.ensures c.if1.true)
+    (clip_stays A.t1 A.id.0 c.eq.result A.clip (made d).construct.result d.stored_clip-stored.result (made d).construct.ensures d.stored_clip-stored.ensures c.eq.ensures c.if-eq.true)
 
-clip-kind-requires : tie.Need-clip-kind-requires
-clip-kind-requires c κs = search rules
+clip_kind-kind-requires : tie.Need-clip_kind-kind-requires
+clip_kind-kind-requires c κs = search rules
 
-put-byte-requires : tie.Need-put-byte-requires
-put-byte-requires c κs = low (from-read c.before.before.before.before)
+put_byte-requires : tie.Need-put_byte-requires
+put_byte-requires c κs = low (from_read c.before.before.before.before)
 
-put-clip-requires : tie.Need-put-clip-requires
-put-clip-requires c κs = low (from-read c.before.before.before.before.before.before)
+put_clip-requires : tie.Need-put_clip-requires
+put_clip-requires c κs = low (from_read c.before.before.before.before.before.before)
 
 mark-requires : tie.Need-mark-requires
-mark-requires c κs = low (from-read c.before.before.before.before.before.before.before.before)
+mark-requires c κs = low (from_read c.before.before.before.before.before.before.before.before)
 
 mark-requires-2 : tie.Need-mark-requires-2
-mark-requires-2 c κs = low (from-read c.before.before.before.before.before.before.before.before.before.before)
+mark-requires-2 c κs = low (from_read c.before.before.before.before.before.before.before.before.before.before)
 
-returns-3 : tie.Need-returns-3
-returns-3 c =
+returns : tie.Need-returns
+returns c =
     let m = c.before.before in
     let p = m.before.before in
     let b = p.before.before in
     let n = b.before.before in
     let f = n.before in
     let d = f.before.before in
-    let e = from-read d in
+    let e = from_read d in
     let k = e.before.before in
     let A = (start k).args in
     accepted (verdict k) k.check.result _ A.t1 (tested k) _ e.enum_told.given.1
-    (clip_done A.t1 A.id.0 f.before.eq.result A.clip (made d).construct.result d.stored-clip.result (made d).construct.ensures d.stored-clip.ensures f.before.eq.ensures f.if1.false n.clip-kind.result b.put_byte.new.0 p.put-clip.new.0 m.mark.new.0 c.mark2.new.0 n.clip-kind.ensures b.put_byte.ensures p.put-clip.ensures m.mark.ensures c.mark2.ensures)
+    (clip_done A.t1 A.id.0 f.eq.result A.clip (made d).construct.result d.stored_clip-stored.result (made d).construct.ensures d.stored_clip-stored.ensures f.eq.ensures f.if-eq.false n.clip_kind-kind.result b.put_byte.new.0 p.put_clip.new.0 m.mark.new.0 c.mark-2.new.0 n.clip_kind-kind.ensures b.put_byte.ensures p.put_clip.ensures m.mark.ensures c.mark-2.ensures)
 
-pub set-local-clip-spec : {M : Type 1} → statement M
-set-local-clip-spec =
+pub set_local_clip_spec : {M : Type 1} → statement M
+set_local_clip_spec =
     tie.close
     (tie.spec
-    of-node-requires
-    is-finite-requires
-    check-requires
-    enum_told
-    enum-told-2
-    returns
-    cast-x
-    construct-requires
-    stored-clip-requires
+    of_node-node-requires
+    is_finite-requires
+    check-v-requires
+    enum_told-1
+    enum_told-in_default
+    returns-in_default
+    overflow_cast-x
+    construct-made-requires
+    stored_clip-stored-requires
     eq-requires
-    returns-2
-    clip-kind-requires
-    put-byte-requires
-    put-clip-requires
+    returns-then-eq
+    clip_kind-kind-requires
+    put_byte-requires
+    put_clip-requires
     mark-requires
     mark-requires-2
-    returns-3)
+    returns)

@@ -11,70 +11,70 @@ use Rattle.tree_setters.proofs.levels.set_flags.Tie as tie
 
 -- ---- the test, and what it gives
 
-abbrev start : tie.After-check → tie.Start
+abbrev start : tie.After-check-v → tie.Start
 start c = c.before.before.before
 
-abbrev verdict : tie.After-check → Verdict
+abbrev verdict : tie.After-check-v → Verdict
 verdict c = flags_verdict (start c).args.t1 (start c).args.id (start c).args.flags
 
-tested : (c : tie.After-check) → c.check.result ≡ verdict c
+tested : (c : tie.After-check-v) → c.check-v.result ≡ verdict c
 tested c =
     let A = (start c).args in
-    tested_all (of_node A.t1 A.id) c.before.before.of_node_lem.result c.check.result (known A.flags) c.before.is_Known.result no.UnknownFlags
-    c.before.before.of_node_lem.ensures
-    c.before.is_Known.ensures
-    c.check.ensures
+    tested_all (of_node A.t1 A.id) c.of_node-node.result c.check-v.result (known A.flags) c.is_Known.result no.UnknownFlags
+    c.of_node-node.ensures
+    c.is_Known.ensures
+    c.check-v.ensures
 
-low : (c : tie.After-enum-told) → (start c.before.before).args.id.0 < 256
+low : (c : tie.In-Accepted) → (start c.before).args.id.0 < 256
 low c =
-    let k = c.before.before in
+    let k = c.before in
     let A = (start k).args in
-    tested_low A.t1 A.id (known A.flags) no.UnknownFlags k.check.result (start k).well-formed.0 (tested k) c.enum_told.given.1
+    tested_low A.t1 A.id (known A.flags) no.UnknownFlags k.check-v.result (start k).well-formed.0 (tested k) c.in-Accepted.is
 
-of-node-requires : tie.Need-of-node-requires
-of-node-requires c κs = search rules
+of_node-node-requires : tie.Need-of_node-node-requires
+of_node-node-requires c κs = search rules
 
-is-known-requires : tie.Need-is-known-requires
-is-known-requires c κs = search rules
+is_known-requires : tie.Need-is_known-requires
+is_known-requires c κs = search rules
 
-check-requires : tie.Need-check-requires
-check-requires c κs = search rules
+check-v-requires : tie.Need-check-v-requires
+check-v-requires c κs = search rules
 
-enum_told : tie.Need-enum-told
-enum_told c = search rules
+enum_told-1 : tie.Need-enum_told-1
+enum_told-1 c = search rules
 
-enum-told-2 : tie.Need-enum-told-2
-enum-told-2 c = search rules
+enum_told-in_default : tie.Need-enum_told-in_default
+enum_told-in_default c = search rules
+
+returns-in_default : tie.Need-returns-in_default
+returns-in_default c =
+    let k = c.before in
+    refused (verdict k) k.check-v.result _ (start k).args.t1 (tested k) c.in_default.field-0 c.in_default.is
+
+overflow_cast-x : tie.Need-overflow_cast-x
+overflow_cast-x c = search rules
+
+put_byte-requires : tie.Need-put_byte-requires
+put_byte-requires c κs = low c.before.before
 
 returns : tie.Need-returns
 returns c =
-    let k = c.before.before in
-    refused (verdict k) k.check.result _ (start k).args.t1 (tested k) c.enum-told2.given.0.0 c.enum-told2.given.1
-
-cast-x : tie.Need-overflow-cast-x
-cast-x c = search rules
-
-put-byte-requires : tie.Need-put-byte-requires
-put-byte-requires c κs = low c.before.before
-
-returns-2 : tie.Need-returns-2
-returns-2 c =
     let e = c.before.before.before in
-    let k = e.before.before in
+    let k = e.before in
     let A = (start k).args in
-    accepted (verdict k) k.check.result _ A.t1 (tested k) _ e.enum_told.given.1
+    accepted (verdict k) k.check-v.result _ A.t1 (tested k) _ e.in-Accepted.is
     (flags_done A.t1 A.id.0 A.flags c.put_byte.new.0 c.put_byte.ensures)
 
-pub set-flags-spec : {M : Type 1} → statement M
-set-flags-spec =
+pub set_flags_spec : {M : Type 1} → statement M
+set_flags_spec =
     tie.close
     (tie.spec
-    of-node-requires
-    is-known-requires
-    check-requires
-    enum_told
-    enum-told-2
-    returns
-    cast-x
-    put-byte-requires
-    returns-2)
+    of_node-node-requires
+    is_known-requires
+    check-v-requires
+    enum_told-1
+    enum_told-in_default
+    returns-in_default
+    overflow_cast-x
+    put_byte-requires
+    returns)

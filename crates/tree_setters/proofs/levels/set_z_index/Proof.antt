@@ -10,42 +10,42 @@ use Rattle.tree_setters.proofs.steps.Done.{refused, accepted, slot_low, level_do
 use Rattle.tree_setters.proofs.levels.set_z_index.Statement.{statement}
 use Rattle.tree_setters.proofs.levels.set_z_index.Tie as tie
 
-low : (c : tie.After-enum-told) → c.before.before.before.args.id.0 < 256
+low : (c : tie.In-Accepted) → c.args.id.0 < 256
 low c =
-    let k = c.before.before in
-    let A = k.before.args in
-    slot_low A.t1 A.id k.of_node_lem.result k.before.well-formed.0 k.of_node_lem.ensures c.enum_told.given.1
+    let k = c.before in
+    let A = k.args in
+    slot_low A.t1 A.id k.of_node-v.result k.well_formed.0 k.of_node-v.ensures c.in-Accepted.is
 
-of-node-requires : tie.Need-of-node-requires
-of-node-requires c κs = search rules
+of_node-v-requires : tie.Need-of_node-v-requires
+of_node-v-requires c κs = search rules
 
-enum_told : tie.Need-enum-told
-enum_told c = search rules
+enum_told-1 : tie.Need-enum_told-1
+enum_told-1 c = search rules
 
-enum-told-2 : tie.Need-enum-told-2
-enum-told-2 c = search rules
+enum_told-in_default : tie.Need-enum_told-in_default
+enum_told-in_default c = search rules
+
+returns-in_default : tie.Need-returns-in_default
+returns-in_default c =
+    let k = c.before in
+    let A = k.args in
+    refused (of_node A.t1 A.id) k.of_node-v.result _ A.t1 k.of_node-v.ensures c.in_default.field-0 c.in_default.is
+
+overflow_cast-x : tie.Need-overflow_cast-x
+overflow_cast-x c = search rules
+
+put_level-requires : tie.Need-put_level-requires
+put_level-requires c κs = low c.before.before
 
 returns : tie.Need-returns
 returns c =
-    let k = c.before.before in
-    let A = k.before.args in
-    refused (of_node A.t1 A.id) k.of_node_lem.result _ A.t1 k.of_node_lem.ensures c.enum-told2.given.0.0 c.enum-told2.given.1
-
-cast-x : tie.Need-overflow-cast-x
-cast-x c = search rules
-
-put-level-requires : tie.Need-put-level-requires
-put-level-requires c κs = low c.before.before
-
-returns-2 : tie.Need-returns-2
-returns-2 c =
     let e = c.before.before.before in
-    let k = e.before.before in
-    let A = k.before.args in
-    accepted (of_node A.t1 A.id) k.of_node_lem.result _ A.t1 k.of_node_lem.ensures _ e.enum_told.given.1
-    (level_done A.t1 A.id.0 A.z c.put-level.new.0 (c.put-level.ensures ∙ ap (λ (v : ℤ). set A.t1.locals.level A.id.0 v) (to_z-of_z w32 A.z k.before.ranges.z)))
+    let k = e.before in
+    let A = k.args in
+    accepted (of_node A.t1 A.id) k.of_node-v.result _ A.t1 k.of_node-v.ensures _ e.in-Accepted.is
+    (level_done A.t1 A.id.0 A.z c.put_level.new.0 (c.put_level.ensures ∙ ap (λ (v : ℤ). set A.t1.locals.level A.id.0 v) (to_z-of_z w32 A.z k.ranges.z)))
 
-pub set-z-index-spec : {M : Type 1} → statement M
-set-z-index-spec =
+pub set_z_index_spec : {M : Type 1} → statement M
+set_z_index_spec =
     tie.close
-    (tie.spec of-node-requires enum_told enum-told-2 returns cast-x put-level-requires returns-2)
+    (tie.spec of_node-v-requires enum_told-1 enum_told-in_default returns-in_default overflow_cast-x put_level-requires returns)

@@ -8,53 +8,53 @@ use borrow.Author.Rules.{rules}
 use Rattle.tree_sound.proofs.entries.entries_right.Statement.{statement}
 use Rattle.tree_sound.proofs.entries.entries_right.Tie as tie
 
-abbrev invariant-loop : tie.invariant-loop
-invariant-loop live committed slot mark payload used ok₀ k₀ ok k = (k ≤ used) × (ok ≡ every k (entry_at live committed slot mark payload))
+abbrev invariant-loop-k : tie.invariant-loop-k
+invariant-loop-k live committed slot mark payload used ok₀ k₀ ok k = (k ≤ used) × (ok ≡ every k (entry_at live committed slot mark payload))
 
-abbrev decreases-loop : tie.decreases-loop
-decreases-loop live committed slot mark payload used ok₀ k₀ ok k = used - k
+abbrev decreases-loop-k : tie.decreases-loop-k
+decreases-loop-k live committed slot mark payload used ok₀ k₀ ok k = used - k
 
-loop-holds : tie.Need-loop-init invariant-loop decreases-loop
+loop-k-init : tie.Need-loop-k-init invariant-loop-k decreases-loop-k
 unfolding every
-loop-holds c = (omega arith, refl)
+loop-k-init c = (omega arith, refl)
 
-id-at-requires : tie.Need-id-at-requires invariant-loop decreases-loop
-id-at-requires c κs = search rules
+id_at-id-requires : tie.Need-id_at-id-requires invariant-loop-k decreases-loop-k
+id_at-id-requires c κs = search rules
 
-cast-owned-right : tie.Need-overflow-cast-owned-right invariant-loop decreases-loop
-cast-owned-right c = search rules
+overflow_cast-k : tie.Need-overflow_cast-k invariant-loop-k decreases-loop-k
+overflow_cast-k c = search rules
 
-owned-right-requires : tie.Need-owned-right-requires invariant-loop decreases-loop
-owned-right-requires c κs = search rules
+owned_right-owned-requires : tie.Need-owned_right-owned-requires invariant-loop-k decreases-loop-k
+owned_right-owned-requires c κs = search rules
 
-element-copy-out-m : tie.Need-element-copy-out-m invariant-loop decreases-loop
-element-copy-out-m c = search rules
+bounds-mark-k : tie.Need-bounds-mark-k invariant-loop-k decreases-loop-k
+bounds-mark-k c = search rules
 
-add-k : tie.Need-overflow-add-k invariant-loop decreases-loop
-add-k c = search rules
+overflow_add-k : tie.Need-overflow_add-k invariant-loop-k decreases-loop-k
+overflow_add-k c = search rules
 
-loop-less : tie.Need-loop-smaller invariant-loop decreases-loop
-loop-less c = search rules
+loop-k-smaller : tie.Need-loop-k-smaller invariant-loop-k decreases-loop-k
+loop-k-smaller c = search rules
 
-loop-again : tie.Need-loop-preserved invariant-loop decreases-loop
+loop-k-preserved : tie.Need-loop-k-preserved invariant-loop-k decreases-loop-k
 unfolding entry_at
-loop-again c = let L = c.before.before.before.before.loop in let A = c.before.before.before.before.before.args in (omega arith, rw (every_next L.k (entry_at A.live.now A.committed.now A.slot.now A.mark.now A.payload.now), ← L.invariant.1, c.before.owned-right.ensures, c.before.before.id-at.ensures))
+loop-k-preserved c = let L = c.loop-k in let A = c.args in (omega arith, rw (every_next L.k (entry_at A.live.now A.committed.now A.slot.now A.mark.now A.payload.now), ← L.invariant.1, c.owned_right-owned.ensures, c.id_at-id.ensures))
 
-returns : tie.Need-returns invariant-loop decreases-loop
-returns c = let L = c.before.loop in let e : L.k ≡ c.before.before.args.used = omega arith in rw (← e) L.invariant.1
+returns : tie.Need-returns invariant-loop-k decreases-loop-k
+returns c = let L = c.loop-k in let e : L.k ≡ c.args.used = omega arith in rw (← e) L.invariant.1
 
-pub entries-right-spec : {M : Type 1} → statement M
-entries-right-spec =
+pub entries_right_spec : {M : Type 1} → statement M
+entries_right_spec =
     tie.close
     (tie.spec
-    invariant-loop
-    decreases-loop
-    loop-holds
-    id-at-requires
-    cast-owned-right
-    owned-right-requires
-    element-copy-out-m
-    add-k
-    loop-less
-    loop-again
+    invariant-loop-k
+    decreases-loop-k
+    loop-k-init
+    id_at-id-requires
+    overflow_cast-k
+    owned_right-owned-requires
+    bounds-mark-k
+    overflow_add-k
+    loop-k-smaller
+    loop-k-preserved
     returns)

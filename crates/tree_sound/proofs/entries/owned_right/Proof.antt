@@ -6,33 +6,33 @@ use borrow.Author.Rules.{rules}
 use Rattle.tree_sound.proofs.entries.owned_right.Statement.{statement}
 use Rattle.tree_sound.proofs.entries.owned_right.Tie as tie
 
+returns-then-owner-ge256 : tie.Need-returns-then-owner-ge256
+unfolding owned_at
+returns-then-owner-ge256 c = let e : get_or c.args.live.now c.args.owner 0 ≡ 0 = get_or-eq_default c.args.live.now 0 (omega (arith, c.requires)) in rw (owned_at, e)
+
+bounds-live-x : tie.Need-bounds-live-x
+bounds-live-x c = search rules
+
+bounds-committed-x : tie.Need-bounds-committed-x
+bounds-committed-x c = search rules
+
+offset_bounds-slot-x : tie.Need-offset_bounds-slot-x
+offset_bounds-slot-x c = search rules
+
+bounds-slot-x : tie.Need-bounds-slot-x
+bounds-slot-x c = search rules
+
 returns : tie.Need-returns
 unfolding owned_at
-returns c = let e : get_or c.before.args.live.now c.before.args.owner 0 ≡ 0 = get_or-eq_default c.before.args.live.now 0 (omega (arith, c.before.requires)) in rw (owned_at, e)
+returns c = refl
 
-element-copy-out-result : tie.Need-element-copy-out-result
-element-copy-out-result c = search rules
-
-element-copy-out-result-2 : tie.Need-element-copy-out-result-2
-element-copy-out-result-2 c = search rules
-
-mul-result : tie.Need-overflow-mul-result
-mul-result c = search rules
-
-element-copy-out-result-3 : tie.Need-element-copy-out-result-3
-element-copy-out-result-3 c = search rules
-
-returns-2 : tie.Need-returns-2
-unfolding owned_at
-returns-2 c = refl
-
-pub owned-right-spec : {M : Type 1} → statement M
-owned-right-spec =
+pub owned_right_spec : {M : Type 1} → statement M
+owned_right_spec =
     tie.close
     (tie.spec
-    returns
-    element-copy-out-result
-    element-copy-out-result-2
-    mul-result
-    element-copy-out-result-3
-    returns-2)
+    returns-then-owner-ge256
+    bounds-live-x
+    bounds-committed-x
+    offset_bounds-slot-x
+    bounds-slot-x
+    returns)

@@ -9,61 +9,61 @@ use borrow.Author.Rules.{rules}
 use Rattle.tree_sound.proofs.nodes.marks_right.Statement.{statement}
 use Rattle.tree_sound.proofs.nodes.marks_right.Tie as tie
 
-abbrev invariant-loop : tie.invariant-loop
-invariant-loop order count marked transform clip ok₀ i₀ ok i = (i ≤ count) × (ok ≡ every_of (marks_at marked transform clip) (take i order))
+abbrev invariant-loop-i : tie.invariant-loop-i
+invariant-loop-i order count marked transform clip ok₀ i₀ ok i = (i ≤ count) × (ok ≡ every_of (marks_at marked transform clip) (take i order))
 
-abbrev decreases-loop : tie.decreases-loop
-decreases-loop order count marked transform clip ok₀ i₀ ok i = count - i
+abbrev decreases-loop-i : tie.decreases-loop-i
+decreases-loop-i order count marked transform clip ok₀ i₀ ok i = count - i
 
-loop-holds : tie.Need-loop-init invariant-loop decreases-loop
+loop-i-init : tie.Need-loop-i-init invariant-loop-i decreases-loop-i
 unfolding every_of
-loop-holds c = (omega arith, refl)
+loop-i-init c = (omega arith, refl)
 
-mul-x : tie.Need-overflow-mul-x invariant-loop decreases-loop
-mul-x c = search rules
+offset_bounds-order-i : tie.Need-offset_bounds-order-i invariant-loop-i decreases-loop-i
+offset_bounds-order-i c = search rules
 
-element-copy-out-x : tie.Need-element-copy-out-x invariant-loop decreases-loop
-element-copy-out-x c = search rules
+bounds-order-i : tie.Need-bounds-order-i invariant-loop-i decreases-loop-i
+bounds-order-i c = search rules
 
-cast-x : tie.Need-overflow-cast-x invariant-loop decreases-loop
-cast-x c = omega (arith, c.before.before.before.requires.2 c.before.before.loop.i (omega arith))
+overflow_cast-x : tie.Need-overflow_cast-x invariant-loop-i decreases-loop-i
+overflow_cast-x c = omega (arith, c.requires.2 c.loop-i.i (omega arith))
 
-element-copy-out-ok : tie.Need-element-copy-out-ok invariant-loop decreases-loop
-element-copy-out-ok c = omega (arith, c.before.before.before.requires.2 c.before.before.loop.i (omega arith))
+bounds-marked-x : tie.Need-bounds-marked-x invariant-loop-i decreases-loop-i
+bounds-marked-x c = omega (arith, c.requires.2 c.loop-i.i (omega arith))
 
-element-copy-out-ok-2 : tie.Need-element-copy-out-ok-2 invariant-loop decreases-loop
-element-copy-out-ok-2 c = omega (arith, c.before.before.before.before.requires.2 c.before.before.before.loop.i (omega arith))
+bounds-transform-x : tie.Need-bounds-transform-x invariant-loop-i decreases-loop-i
+bounds-transform-x c = omega (arith, c.requires.2 c.loop-i.i (omega arith))
 
-element-copy-out-ok-3 : tie.Need-element-copy-out-ok-3 invariant-loop decreases-loop
-element-copy-out-ok-3 c = omega (arith, c.before.before.before.before.before.requires.2 c.before.before.before.before.loop.i (omega arith))
+bounds-clip-x : tie.Need-bounds-clip-x invariant-loop-i decreases-loop-i
+bounds-clip-x c = omega (arith, c.requires.2 c.loop-i.i (omega arith))
 
-add-i : tie.Need-overflow-add-i invariant-loop decreases-loop
-add-i c = search rules
+overflow_add-i : tie.Need-overflow_add-i invariant-loop-i decreases-loop-i
+overflow_add-i c = search rules
 
-loop-less : tie.Need-loop-smaller invariant-loop decreases-loop
-loop-less c = search rules
+loop-i-smaller : tie.Need-loop-i-smaller invariant-loop-i decreases-loop-i
+loop-i-smaller c = search rules
 
-loop-again : tie.Need-loop-preserved invariant-loop decreases-loop
+loop-i-preserved : tie.Need-loop-i-preserved invariant-loop-i decreases-loop-i
 unfolding marks_at
-loop-again c = let L = c.before.before.before.before.before.loop in let A = c.before.before.before.before.before.before.args in (omega arith, rw (every_more (marks_at A.marked.now A.transform.now A.clip.now) A.order.now L.i (omega (arith, c.before.before.before.before.before.before.requires.0, c.before.before.before.before.before.before.requires.1)), ← L.invariant.1))
+loop-i-preserved c = let L = c.loop-i in let A = c.args in (omega arith, rw (every_more (marks_at A.marked.now A.transform.now A.clip.now) A.order.now L.i (omega (arith, c.requires.0, c.requires.1)), ← L.invariant.1))
 
-returns : tie.Need-returns invariant-loop decreases-loop
-returns c = let L = c.before.loop in let e : L.i ≡ c.before.before.args.count = omega arith in rw (← e) L.invariant.1
+returns : tie.Need-returns invariant-loop-i decreases-loop-i
+returns c = let L = c.loop-i in let e : L.i ≡ c.args.count = omega arith in rw (← e) L.invariant.1
 
-pub marks-right-spec : {M : Type 1} → statement M
-marks-right-spec =
+pub marks_right_spec : {M : Type 1} → statement M
+marks_right_spec =
     tie.close
     (tie.spec
-    invariant-loop
-    decreases-loop
-    loop-holds
-    mul-x
-    element-copy-out-x
-    cast-x
-    element-copy-out-ok
-    element-copy-out-ok-2
-    element-copy-out-ok-3
-    add-i
-    loop-less
-    loop-again
+    invariant-loop-i
+    decreases-loop-i
+    loop-i-init
+    offset_bounds-order-i
+    bounds-order-i
+    overflow_cast-x
+    bounds-marked-x
+    bounds-transform-x
+    bounds-clip-x
+    overflow_add-i
+    loop-i-smaller
+    loop-i-preserved
     returns)

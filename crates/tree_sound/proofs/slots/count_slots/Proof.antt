@@ -11,21 +11,21 @@ use Rattle.tree_state.specs.Sound.{slots_right}
 use Rattle.tree_sound.proofs.slots.count_slots.Statement.{statement}
 use Rattle.tree_sound.proofs.slots.count_slots.Tie as tie
 
-count-list-requires : tie.Need-count-list-requires
-count-list-requires c κs = search rules
+count_list-live-requires : tie.Need-count_list-live-requires
+count_list-live-requires c κs = search rules
 
-count-list-requires-2 : tie.Need-count-list-requires-2
-count-list-requires-2 c κs = search rules
+count_list-unused-requires : tie.Need-count_list-unused-requires
+count_list-unused-requires c κs = search rules
 
-shares-right-requires : tie.Need-shares-right-requires
-shares-right-requires c κs = search rules
+shares_right-shares-requires : tie.Need-shares_right-shares-requires
+shares_right-shares-requires c κs = search rules
 
 returns : tie.Need-returns
 unfolding slots_right
-returns c = let F = c.before.before.before.before.before.before.before.count_list in
-    let Q = c.before.before.before.before.before.before.count-list2 in
-    let A = c.before.before.before.before.before.before.before.before.args in
-    let S = c.before.shares-right in (
+returns c = let F = c.count_list-live in
+    let Q = c.count_list-unused in
+    let A = c.args in
+    let S = c.shares_right-shares in (
       rw (S.ensures, ← F.ensures.0, ← Q.ensures.0)
           (ap (λ (b : Bool). leb A.used 256 && b)
           (behind F.result.ok Q.result.ok 256
@@ -35,5 +35,5 @@ returns c = let F = c.before.before.before.before.before.before.before.count_lis
       λ e. F.ensures.1 (and_left F.result.ok (Q.result.ok && S.result) (and_right (leb A.used 256) (F.result.ok && (Q.result.ok && S.result)) e)),
     )
 
-pub count-slots-spec : {M : Type 1} → statement M
-count-slots-spec = tie.close (tie.spec count-list-requires count-list-requires-2 shares-right-requires returns)
+pub count_slots_spec : {M : Type 1} → statement M
+count_slots_spec = tie.close (tie.spec count_list-live-requires count_list-unused-requires shares_right-shares-requires returns)

@@ -9,48 +9,48 @@ use borrow.Author.Rules.{rules}
 use Rattle.tree_sound.proofs.slots.shares_right.Statement.{statement}
 use Rattle.tree_sound.proofs.slots.shares_right.Tie as tie
 
-abbrev invariant-loop : tie.invariant-loop
-invariant-loop live free used ok₀ x₀ ok x = (x ≤ 256) × (ok ≡ every x (λ y. eqb (get_or live y 0 + get_or free y 0) (tally (ltb y used))))
+abbrev invariant-loop-x : tie.invariant-loop-x
+invariant-loop-x live free used ok₀ x₀ ok x = (x ≤ 256) × (ok ≡ every x (λ y. eqb (get_or live y 0 + get_or free y 0) (tally (ltb y used))))
 
-abbrev decreases-loop : tie.decreases-loop
-decreases-loop live free used ok₀ x₀ ok x = 256 - x
+abbrev decreases-loop-x : tie.decreases-loop-x
+decreases-loop-x live free used ok₀ x₀ ok x = 256 - x
 
-loop-holds : tie.Need-loop-init invariant-loop decreases-loop
+loop-x-init : tie.Need-loop-x-init invariant-loop-x decreases-loop-x
 unfolding every
-loop-holds c = (omega arith, refl)
+loop-x-init c = (omega arith, refl)
 
-element-copy-out-slot-right : tie.Need-element-copy-out-slot-right invariant-loop decreases-loop
-element-copy-out-slot-right c = search rules
+bounds-live-x : tie.Need-bounds-live-x invariant-loop-x decreases-loop-x
+bounds-live-x c = search rules
 
-element-copy-out-slot-right-2 : tie.Need-element-copy-out-slot-right-2 invariant-loop decreases-loop
-element-copy-out-slot-right-2 c = search rules
+bounds-free-x : tie.Need-bounds-free-x invariant-loop-x decreases-loop-x
+bounds-free-x c = search rules
 
-slot-right-requires : tie.Need-slot-right-requires invariant-loop decreases-loop
-slot-right-requires c κs = search rules
+slot_right-ok-requires : tie.Need-slot_right-ok-requires invariant-loop-x decreases-loop-x
+slot_right-ok-requires c κs = search rules
 
-add-x : tie.Need-overflow-add-x invariant-loop decreases-loop
-add-x c = search rules
+overflow_add-x : tie.Need-overflow_add-x invariant-loop-x decreases-loop-x
+overflow_add-x c = search rules
 
-loop-less : tie.Need-loop-smaller invariant-loop decreases-loop
-loop-less c = search rules
+loop-x-smaller : tie.Need-loop-x-smaller invariant-loop-x decreases-loop-x
+loop-x-smaller c = search rules
 
-loop-again : tie.Need-loop-preserved invariant-loop decreases-loop
-loop-again c = let L = c.before.before.before.before.loop in let A = c.before.before.before.before.before.args in (omega arith, rw (every_next L.x (λ y. eqb (get_or A.live.now y 0 + get_or A.free.now y 0) (tally (ltb y A.used))), ← L.invariant.1, c.slot-right.ensures))
+loop-x-preserved : tie.Need-loop-x-preserved invariant-loop-x decreases-loop-x
+loop-x-preserved c = let L = c.loop-x in let A = c.args in (omega arith, rw (every_next L.x (λ y. eqb (get_or A.live.now y 0 + get_or A.free.now y 0) (tally (ltb y A.used))), ← L.invariant.1, c.slot_right-ok.ensures))
 
-returns : tie.Need-returns invariant-loop decreases-loop
-returns c = let L = c.before.loop in let e : L.x ≡ 256 = omega arith in rw (← e) L.invariant.1
+returns : tie.Need-returns invariant-loop-x decreases-loop-x
+returns c = let L = c.loop-x in let e : L.x ≡ 256 = omega arith in rw (← e) L.invariant.1
 
-pub shares-right-spec : {M : Type 1} → statement M
-shares-right-spec =
+pub shares_right_spec : {M : Type 1} → statement M
+shares_right_spec =
     tie.close
     (tie.spec
-    invariant-loop
-    decreases-loop
-    loop-holds
-    element-copy-out-slot-right
-    element-copy-out-slot-right-2
-    slot-right-requires
-    add-x
-    loop-less
-    loop-again
+    invariant-loop-x
+    decreases-loop-x
+    loop-x-init
+    bounds-live-x
+    bounds-free-x
+    slot_right-ok-requires
+    overflow_add-x
+    loop-x-smaller
+    loop-x-preserved
     returns)

@@ -4,14 +4,14 @@ use borrow.Author.Rules.{rules}
 use Rattle.tree_sound.proofs.slots.slot_right.Statement.{statement}
 use Rattle.tree_sound.proofs.slots.slot_right.Tie as tie
 
-add-both : tie.Need-overflow-add-both
-add-both c = search rules
+overflow_add-both : tie.Need-overflow_add-both
+overflow_add-both c = search rules
+
+returns-then-x-used : tie.Need-returns-then-x-used
+returns-then-x-used c = rw (lt-ltb c.args.x c.args.used (omega arith))
 
 returns : tie.Need-returns
-returns c = rw (lt-ltb c.before.args.x c.before.args.used (omega arith))
+returns c = rw (le-ltb c.args.x c.args.used (omega arith))
 
-returns-2 : tie.Need-returns-2
-returns-2 c = rw (le-ltb c.before.args.x c.before.args.used (omega arith))
-
-pub slot-right-spec : {M : Type 1} → statement M
-slot-right-spec = tie.close (tie.spec add-both returns returns-2)
+pub slot_right_spec : {M : Type 1} → statement M
+slot_right_spec = tie.close (tie.spec overflow_add-both returns-then-x-used returns)

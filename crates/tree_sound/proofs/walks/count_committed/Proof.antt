@@ -9,60 +9,60 @@ use borrow.Author.Rules.{rules}
 use Rattle.tree_sound.proofs.walks.count_committed.Statement.{statement}
 use Rattle.tree_sound.proofs.walks.count_committed.Tie as tie
 
-abbrev invariant-loop : tie.invariant-loop
-invariant-loop order count committed sum₀ i₀ sum i = (i ≤ count) × (sum ≤ i) × (sum ≡ count_of (λ x. get_or committed x false) (take i order))
+abbrev invariant-loop-i : tie.invariant-loop-i
+invariant-loop-i order count committed sum₀ i₀ sum i = (i ≤ count) × (sum ≤ i) × (sum ≡ count_of (λ x. get_or committed x false) (take i order))
 
-abbrev decreases-loop : tie.decreases-loop
-decreases-loop order count committed sum₀ i₀ sum i = count - i
+abbrev decreases-loop-i : tie.decreases-loop-i
+decreases-loop-i order count committed sum₀ i₀ sum i = count - i
 
-loop-holds : tie.Need-loop-init invariant-loop decreases-loop
+loop-i-init : tie.Need-loop-i-init invariant-loop-i decreases-loop-i
 unfolding count_of
-loop-holds c = (omega arith, omega arith, refl)
+loop-i-init c = (omega arith, omega arith, refl)
 
-mul-x : tie.Need-overflow-mul-x invariant-loop decreases-loop
-mul-x c = search rules
+offset_bounds-order-i : tie.Need-offset_bounds-order-i invariant-loop-i decreases-loop-i
+offset_bounds-order-i c = search rules
 
-element-copy-out-x : tie.Need-element-copy-out-x invariant-loop decreases-loop
-element-copy-out-x c = search rules
+bounds-order-i : tie.Need-bounds-order-i invariant-loop-i decreases-loop-i
+bounds-order-i c = search rules
 
-cast-x : tie.Need-overflow-cast-x invariant-loop decreases-loop
-cast-x c = omega (arith, c.before.before.before.requires.2 c.before.before.loop.i (omega arith))
+overflow_cast-x : tie.Need-overflow_cast-x invariant-loop-i decreases-loop-i
+overflow_cast-x c = omega (arith, c.requires.2 c.loop-i.i (omega arith))
 
-element-copy-out-unit : tie.Need-element-copy-out-unit invariant-loop decreases-loop
-element-copy-out-unit c = omega (arith, c.before.before.before.requires.2 c.before.before.loop.i (omega arith))
+bounds-committed-x : tie.Need-bounds-committed-x invariant-loop-i decreases-loop-i
+bounds-committed-x c = omega (arith, c.requires.2 c.loop-i.i (omega arith))
 
-unit-requires : tie.Need-unit-requires invariant-loop decreases-loop
-unit-requires c κs = search rules
+unit-sum-requires : tie.Need-unit-sum-requires invariant-loop-i decreases-loop-i
+unit-sum-requires c κs = search rules
 
-add-sum : tie.Need-overflow-add-sum invariant-loop decreases-loop
-add-sum c = search rules
+overflow_add-sum : tie.Need-overflow_add-sum invariant-loop-i decreases-loop-i
+overflow_add-sum c = search rules
 
-add-i : tie.Need-overflow-add-i invariant-loop decreases-loop
-add-i c = search rules
+overflow_add-i : tie.Need-overflow_add-i invariant-loop-i decreases-loop-i
+overflow_add-i c = search rules
 
-loop-less : tie.Need-loop-smaller invariant-loop decreases-loop
-loop-less c = search rules
+loop-i-smaller : tie.Need-loop-i-smaller invariant-loop-i decreases-loop-i
+loop-i-smaller c = search rules
 
-loop-again : tie.Need-loop-preserved invariant-loop decreases-loop
-loop-again c = let L = c.before.before.before.before.loop in let A = c.before.before.before.before.before.args in (omega arith, omega (arith, c.unit.ensures.1), rw (count_more (λ x. get_or A.committed.now x false) A.order.now L.i (omega (arith, c.before.before.before.before.before.requires.0, c.before.before.before.before.before.requires.1)), ← L.invariant.2, c.unit.ensures.0))
+loop-i-preserved : tie.Need-loop-i-preserved invariant-loop-i decreases-loop-i
+loop-i-preserved c = let L = c.loop-i in let A = c.args in (omega arith, omega (arith, c.unit-sum.ensures.1), rw (count_more (λ x. get_or A.committed.now x false) A.order.now L.i (omega (arith, c.requires.0, c.requires.1)), ← L.invariant.2, c.unit-sum.ensures.0))
 
-returns : tie.Need-returns invariant-loop decreases-loop
-returns c = let L = c.before.loop in let e : L.i ≡ c.before.before.args.count = omega arith in (omega (arith, c.before.before.requires.0), rw (← e) L.invariant.2)
+returns : tie.Need-returns invariant-loop-i decreases-loop-i
+returns c = let L = c.loop-i in let e : L.i ≡ c.args.count = omega arith in (omega (arith, c.requires.0), rw (← e) L.invariant.2)
 
-pub count-committed-spec : {M : Type 1} → statement M
-count-committed-spec =
+pub count_committed_spec : {M : Type 1} → statement M
+count_committed_spec =
     tie.close
     (tie.spec
-    invariant-loop
-    decreases-loop
-    loop-holds
-    mul-x
-    element-copy-out-x
-    cast-x
-    element-copy-out-unit
-    unit-requires
-    add-sum
-    add-i
-    loop-less
-    loop-again
+    invariant-loop-i
+    decreases-loop-i
+    loop-i-init
+    offset_bounds-order-i
+    bounds-order-i
+    overflow_cast-x
+    bounds-committed-x
+    unit-sum-requires
+    overflow_add-sum
+    overflow_add-i
+    loop-i-smaller
+    loop-i-preserved
     returns)

@@ -9,52 +9,52 @@ use borrow.Author.Rules.{rules}
 use Rattle.tree_sound.proofs.walks.values_right.Statement.{statement}
 use Rattle.tree_sound.proofs.walks.values_right.Tie as tie
 
-abbrev invariant-loop : tie.invariant-loop
-invariant-loop order count bounds slop transform kind clip flags ok₀ i₀ ok i = (i ≤ count) × (ok ≡ every_of (values_at bounds slop transform kind clip flags) (take i order))
+abbrev invariant-loop-i : tie.invariant-loop-i
+invariant-loop-i order count bounds slop transform kind clip flags ok₀ i₀ ok i = (i ≤ count) × (ok ≡ every_of (values_at bounds slop transform kind clip flags) (take i order))
 
-abbrev decreases-loop : tie.decreases-loop
-decreases-loop order count bounds slop transform kind clip flags ok₀ i₀ ok i = count - i
+abbrev decreases-loop-i : tie.decreases-loop-i
+decreases-loop-i order count bounds slop transform kind clip flags ok₀ i₀ ok i = count - i
 
-loop-holds : tie.Need-loop-init invariant-loop decreases-loop
+loop-i-init : tie.Need-loop-i-init invariant-loop-i decreases-loop-i
 unfolding every_of
-loop-holds c = (omega arith, refl)
+loop-i-init c = (omega arith, refl)
 
-mul-x : tie.Need-overflow-mul-x invariant-loop decreases-loop
-mul-x c = search rules
+offset_bounds-order-i : tie.Need-offset_bounds-order-i invariant-loop-i decreases-loop-i
+offset_bounds-order-i c = search rules
 
-element-copy-out-x : tie.Need-element-copy-out-x invariant-loop decreases-loop
-element-copy-out-x c = search rules
+bounds-order-i : tie.Need-bounds-order-i invariant-loop-i decreases-loop-i
+bounds-order-i c = search rules
 
-cast-x : tie.Need-overflow-cast-x invariant-loop decreases-loop
-cast-x c = omega (arith, c.before.before.before.requires.2 c.before.before.loop.i (omega arith))
+overflow_cast-x : tie.Need-overflow_cast-x invariant-loop-i decreases-loop-i
+overflow_cast-x c = omega (arith, c.requires.2 c.loop-i.i (omega arith))
 
-value-right-requires : tie.Need-value-right-requires invariant-loop decreases-loop
-value-right-requires c κs = omega (arith, c.before.before.before.requires.2 c.before.before.loop.i (omega arith))
+value_right-ok-requires : tie.Need-value_right-ok-requires invariant-loop-i decreases-loop-i
+value_right-ok-requires c κs = omega (arith, c.requires.2 c.loop-i.i (omega arith))
 
-add-i : tie.Need-overflow-add-i invariant-loop decreases-loop
-add-i c = search rules
+overflow_add-i : tie.Need-overflow_add-i invariant-loop-i decreases-loop-i
+overflow_add-i c = search rules
 
-loop-less : tie.Need-loop-smaller invariant-loop decreases-loop
-loop-less c = search rules
+loop-i-smaller : tie.Need-loop-i-smaller invariant-loop-i decreases-loop-i
+loop-i-smaller c = search rules
 
-loop-again : tie.Need-loop-preserved invariant-loop decreases-loop
-loop-again c = let L = c.before.before.before.loop in let A = c.before.before.before.before.args in (omega arith, rw (every_more (values_at A.bounds.now A.slop.now A.transform.now A.kind.now A.clip.now A.flags.now) A.order.now L.i (omega (arith, c.before.before.before.before.requires.0, c.before.before.before.before.requires.1)), ← L.invariant.1, c.value-right.ensures))
+loop-i-preserved : tie.Need-loop-i-preserved invariant-loop-i decreases-loop-i
+loop-i-preserved c = let L = c.loop-i in let A = c.args in (omega arith, rw (every_more (values_at A.bounds.now A.slop.now A.transform.now A.kind.now A.clip.now A.flags.now) A.order.now L.i (omega (arith, c.requires.0, c.requires.1)), ← L.invariant.1, c.value_right-ok.ensures))
 
-returns : tie.Need-returns invariant-loop decreases-loop
-returns c = let L = c.before.loop in let e : L.i ≡ c.before.before.args.count = omega arith in rw (← e) L.invariant.1
+returns : tie.Need-returns invariant-loop-i decreases-loop-i
+returns c = let L = c.loop-i in let e : L.i ≡ c.args.count = omega arith in rw (← e) L.invariant.1
 
-pub values-right-spec : {M : Type 1} → statement M
-values-right-spec =
+pub values_right_spec : {M : Type 1} → statement M
+values_right_spec =
     tie.close
     (tie.spec
-    invariant-loop
-    decreases-loop
-    loop-holds
-    mul-x
-    element-copy-out-x
-    cast-x
-    value-right-requires
-    add-i
-    loop-less
-    loop-again
+    invariant-loop-i
+    decreases-loop-i
+    loop-i-init
+    offset_bounds-order-i
+    bounds-order-i
+    overflow_cast-x
+    value_right-ok-requires
+    overflow_add-i
+    loop-i-smaller
+    loop-i-preserved
     returns)

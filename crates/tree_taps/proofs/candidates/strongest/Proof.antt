@@ -35,59 +35,59 @@ holding t present boxes mark payload flags level bounds slop kind clip transform
     (lent.index t.index.generation mark payload t.index.aabb t.index.kept t.index.prev used t.index.free t.index.frees t.index.dirty
     t.index.queued (lent.backend present boxes))
 
-abbrev invariant-loop : tie.invariant-loop
-invariant-loop present boxes mark payload flags level bounds slop kind clip transform order depth generation count used asked point here best₀ k₀ best k =
+abbrev invariant-loop-k : tie.invariant-loop-k
+invariant-loop-k present boxes mark payload flags level bounds slop kind clip transform order depth generation count used asked point here best₀ k₀ best k =
     (k ≤ used)
     × ((t : Tree)
     → Tapping (holding t present boxes mark payload flags level bounds slop kind clip transform order depth generation count used) asked point here best k)
 
-abbrev decreases-loop : tie.decreases-loop
-decreases-loop present boxes mark payload flags level bounds slop kind clip transform order depth generation count used asked point here best₀ k₀ best k = used - k
+abbrev decreases-loop-k : tie.decreases-loop-k
+decreases-loop-k present boxes mark payload flags level bounds slop kind clip transform order depth generation count used asked point here best₀ k₀ best k = used - k
 
 -- a tree with these tables
-abbrev tree : tie.Start invariant-loop decreases-loop → Tree → Tree
+abbrev tree : tie.Start invariant-loop-k decreases-loop-k → Tree → Tree
 tree s t =
     let A = s.args in
     holding t A.present.now A.boxes.now A.mark.now A.payload.now A.flags.now A.level.now A.bounds.now A.slop.now
     A.kind.now A.clip.now A.transform.now A.order.now A.depth.now A.generation.now A.count A.used
 
-new-requires : tie.Need-new-requires invariant-loop decreases-loop
-new-requires c κs = search rules
+new-here-requires : tie.Need-new-here-requires invariant-loop-k decreases-loop-k
+new-here-requires c κs = search rules
 
-loop-holds : tie.Need-loop-init invariant-loop decreases-loop
-loop-holds c = let A = c.before.args in (omega arith, λ t. tap_none (tree c.before t) A.asked A.point c.new.result)
+loop-k-init : tie.Need-loop-k-init invariant-loop-k decreases-loop-k
+loop-k-init c = let A = c.args in (omega arith, λ t. tap_none (tree c.before t) A.asked A.point c.new-here.result)
 
-visited-requires : tie.Need-visited-requires invariant-loop decreases-loop
-visited-requires c κs = omega (arith, c.loop-test.true, c.before.before.before.requires.used_fits)
+visited-visited-requires : tie.Need-visited-visited-requires invariant-loop-k decreases-loop-k
+visited-visited-requires c κs = omega (arith, c.loop-k-test.true, c.requires.used_fits)
 
-id-at-requires : tie.Need-id-at-requires invariant-loop decreases-loop
-id-at-requires c κs = omega (arith, c.before.loop-test.true, c.before.before.before.before.requires.used_fits)
+id_at-id-requires : tie.Need-id_at-id-requires invariant-loop-k decreases-loop-k
+id_at-id-requires c κs = omega (arith, c.loop-k-test.true, c.requires.used_fits)
 
-cast-x : tie.Need-overflow-cast-x invariant-loop decreases-loop
-cast-x c = search rules
+overflow_cast-x : tie.Need-overflow_cast-x invariant-loop-k decreases-loop-k
+overflow_cast-x c = search rules
 
 -- a visited entry's node is shown
-shown : (c : tie.After-visited invariant-loop decreases-loop) → c.visited.result ≡ true → let A = c.before.before.before.before.args in Shown A.order.now A.count (carried_by A.payload.now c.before.before.loop.k)
+shown : (c : tie.After-visited-visited invariant-loop-k decreases-loop-k) → c.visited-visited.result ≡ true → let A = c.args in Shown A.order.now A.count (carried_by A.payload.now c.loop-k.k)
 shown c e =
     let l = c.before in
     let s = l.before.before.before in
     let A = s.args in
-    let k = l.before.loop.k in
-    s.requires.carried k (omega (arith, l.loop-test.true, s.requires.used_fits))
-    (visits_used A.present.now A.boxes.now A.mark.now l.before.before.new.result k (sym c.visited.ensures ∙ e))
+    let k = l.loop-k.k in
+    s.requires.carried k (omega (arith, l.loop-k-test.true, s.requires.used_fits))
+    (visits_used A.present.now A.boxes.now A.mark.now l.new-here.result k (sym c.visited-visited.ensures ∙ e))
 
-shown-id : (c : tie.After-id-at invariant-loop decreases-loop) → c.before.visited.result ≡ true → let A = c.before.before.before.before.before.args in Shown A.order.now A.count c.id-at.result.0
-shown-id c e =
-    let A = c.before.before.before.before.before.args in
-    subst (λ (y : ℕ). Shown A.order.now A.count y) (ap (λ (i : NodeId). i.0) (sym c.id-at.ensures)) (shown c.before e)
+shown_id : (c : tie.After-id_at-id invariant-loop-k decreases-loop-k) → c.visited-visited.result ≡ true → let A = c.args in Shown A.order.now A.count c.id_at-id.result.0
+shown_id c e =
+    let A = c.args in
+    subst (λ (y : ℕ). Shown A.order.now A.count y) (ap (λ (i : NodeId). i.0) (sym c.id_at-id.ensures)) (shown c.before e)
 
-fine-requires : tie.Need-fine-requires invariant-loop decreases-loop
-fine-requires c κs =
-    let p = c.before.before.before.before.before.before.requires in
-    (p.fits, p.orders, p.depths, p.low, shown-id c.before)
+fine-take-requires : tie.Need-fine-take-requires invariant-loop-k decreases-loop-k
+fine-take-requires c κs =
+    let p = c.requires in
+    (p.fits, p.orders, p.depths, p.low, shown_id c.before)
 
-keep-requires : tie.Need-keep-requires invariant-loop decreases-loop
-keep-requires c κs =
+keep-best-requires : tie.Need-keep-best-requires invariant-loop-k decreases-loop-k
+keep-best-requires c κs =
     let i = c.before.before in
     let v = i.before in
     let l = v.before in
@@ -96,61 +96,61 @@ keep-requires c κs =
     let p = s.requires in (
       p.fits,
       p.orders,
-      (l.before.loop.invariant.1 fresh_tree).shown,
-      λ e. shown-id i (and_left v.visited.result (fine_of (tree s fresh_tree) A.asked A.point i.id-at.result.0) (sym c.fine.ensures ∙ e)),
+      (l.loop-k.invariant.1 fresh_tree).shown,
+      λ e. shown_id i (and_left v.visited-visited.result (fine_of (tree s fresh_tree) A.asked A.point i.id_at-id.result.0) (sym c.fine-take.ensures ∙ e)),
     )
 
-add-k : tie.Need-overflow-add-k invariant-loop decreases-loop
-add-k c = omega (arith, c.before.before.before.before.before.loop-test.true, c.before.before.before.before.before.before.before.before.requires.used_fits)
+overflow_add-k : tie.Need-overflow_add-k invariant-loop-k decreases-loop-k
+overflow_add-k c = omega (arith, c.loop-k-test.true, c.requires.used_fits)
 
-loop-less : tie.Need-loop-smaller invariant-loop decreases-loop
-loop-less c = omega (arith, c.before.before.before.before.before.loop-test.true)
+loop-k-smaller : tie.Need-loop-k-smaller invariant-loop-k decreases-loop-k
+loop-k-smaller c = omega (arith, c.loop-k-test.true)
 
-loop-again : tie.Need-loop-preserved invariant-loop decreases-loop
-loop-again c =
+loop-k-preserved : tie.Need-loop-k-preserved invariant-loop-k decreases-loop-k
+loop-k-preserved c =
     let f = c.before in
     let i = f.before.before in
     let v = i.before in
     let l = v.before in
     let s = l.before.before.before in
-    let L = l.before.loop in
+    let L = l.loop-k in
     let A = s.args in
-    let x = i.id-at.ensures in (
-      omega (arith, l.loop-test.true),
-      λ t. tap_turn (tree s t) A.asked A.point l.before.before.new.result L.best c.keep.result L.k v.visited.result f.fine.result
-          v.visited.ensures (rw x at f.fine.ensures) (rw x at c.keep.ensures) (shown v) (L.invariant.1 t),
+    let x = i.id_at-id.ensures in (
+      omega (arith, l.loop-k-test.true),
+      λ t. tap_turn (tree s t) A.asked A.point l.new-here.result L.best c.keep-best.result L.k v.visited-visited.result f.fine-take.result
+          v.visited-visited.ensures (rw x at f.fine-take.ensures) (rw x at c.keep-best.ensures) (shown v) (L.invariant.1 t),
     )
 
-returns : tie.Need-returns invariant-loop decreases-loop
+returns : tie.Need-returns invariant-loop-k decreases-loop-k
 returns c =
-    let L = c.before.loop in
+    let L = c.loop-k in
     let s = c.before.before.before in
     let A = s.args in
-    let here = c.before.before.new.result in
-    let e : L.k ≡ A.used = omega (arith, L.invariant.0, c.loop-test.false) in
+    let here = c.new-here.result in
+    let e : L.k ≡ A.used = omega (arith, L.invariant.0, c.loop-k-test.false) in
     let d : A.used + (512 - A.used) ≡ 512 = omega (arith, s.requires.used_fits) in (
       λ t. tap_ends (tree s t) A.asked A.point L.best
-          (rw (← c.before.before.new.ensures)
+          (rw (← c.new-here.ensures)
           (subst (λ (m : ℕ). Tapping (tree s t) A.asked A.point here L.best m) d
           (tap_beyond (tree s t) A.asked A.point here L.best A.used (512 - A.used) s.requires.beyond
           (subst (λ (m : ℕ). Tapping (tree s t) A.asked A.point here L.best m) e (L.invariant.1 t))))),
       (L.invariant.1 fresh_tree).shown,
     )
 
-pub strongest-spec : {M : Type 1} → statement M
-strongest-spec =
+pub strongest_spec : {M : Type 1} → statement M
+strongest_spec =
     tie.close
     (tie.spec
-    invariant-loop
-    decreases-loop
-    new-requires
-    loop-holds
-    visited-requires
-    id-at-requires
-    cast-x
-    fine-requires
-    keep-requires
-    add-k
-    loop-less
-    loop-again
+    invariant-loop-k
+    decreases-loop-k
+    new-here-requires
+    loop-k-init
+    visited-visited-requires
+    id_at-id-requires
+    overflow_cast-x
+    fine-take-requires
+    keep-best-requires
+    overflow_add-k
+    loop-k-smaller
+    loop-k-preserved
     returns)

@@ -6,70 +6,70 @@ use borrow.Author.Rules.{rules}
 use Rattle.tree_taps.proofs.fine.fine.Statement.{statement}
 use Rattle.tree_taps.proofs.fine.fine.Tie as tie
 
-returns : tie.Need-returns
-returns c = rw (not-true c.before.args.visited c.if1.true)
+returns-then-not-visited : tie.Need-returns-then-not-visited
+returns-then-not-visited c = rw c.if-not-visited.true
 
 -- the node is shown
-shown : (c : tie.Else1) → let A = c.before.args in Shown A.order.now A.count A.x
-shown c = c.before.requires.4 (not-false c.before.args.visited c.if1.false)
+shown : (c : tie.Else-not-visited) → let A = c.args in Shown A.order.now A.count A.x
+shown c = c.requires.4 c.if-not-visited.false
 
-element-copy-out-t19 : tie.Need-element-copy-out-t19
-element-copy-out-t19 c = (shown c).0
+bounds-flags-x : tie.Need-bounds-flags-x
+bounds-flags-x c = (shown c).0
 
 contains-requires : tie.Need-contains-requires
 contains-requires c κs = search rules
 
-returns-2 : tie.Need-returns-2
+returns-then-not-contains : tie.Need-returns-then-not-contains
 unfolding fine_at
-returns-2 c =
-    let h = c.before.contains in
+returns-then-not-contains c =
+    let h = c.contains in
     let y = c.before.before.before in
-    rw (not-false y.before.args.visited y.if1.false, ← h.ensures, not-true h.result c.if2.true)
+    rw (y.if-not-visited.false, ← h.ensures, c.if-not-contains.true)
 
 reaches-requires : tie.Need-reaches-requires
 reaches-requires c κs = (shown c.before.before.before).0
 
-returns-3 : tie.Need-returns-3
+returns-then-not-reaches : tie.Need-returns-then-not-reaches
 unfolding fine_at
-returns-3 c =
-    let h = c.before.before.before.contains in
-    let r = c.before.reaches in
+returns-then-not-reaches c =
+    let h = c.contains in
+    let r = c.reaches in
     let y = c.before.before.before.before.before in
-    rw (not-false y.before.args.visited y.if1.false, ← h.ensures, not-false h.result c.before.before.if2.false, ← r.ensures, not-true r.result c.if3.true)
+    rw (y.if-not-visited.false, ← h.ensures, c.if-not-contains.false, ← r.ensures, c.if-not-reaches.true)
 
-cast-position : tie.Need-overflow-cast-position
-cast-position c = omega (arith, (shown c.before.before.before.before.before).0)
+overflow_cast-x : tie.Need-overflow_cast-x
+overflow_cast-x c = omega (arith, (shown c.before.before.before.before.before).0)
 
-position-requires : tie.Need-position-requires
-position-requires c κs = search rules
+position-at-requires : tie.Need-position-at-requires
+position-at-requires c κs = search rules
 
-in-clips-requires : tie.Need-in-clips-requires
-in-clips-requires c κs =
+in_clips-requires : tie.Need-in_clips-requires
+in_clips-requires c κs =
     let y = c.before.before.before.before.before.before in
     let s = y.before in
-    let e = c.position.ensures.1 in
+    let e = c.position-at.ensures.1 in
     let p = (shown y).1 in
     (omega (arith, s.requires.0), s.requires.1, s.requires.2, λ k h. s.requires.3 k (omega arith))
 
-returns-4 : tie.Need-returns-4
+returns : tie.Need-returns
 unfolding fine_at
-returns-4 c =
-    let h = c.before.before.before.before.before.contains in
-    let r = c.before.before.before.reaches in
+returns c =
+    let h = c.contains in
+    let r = c.reaches in
     let y = c.before.before.before.before.before.before.before in
-    rw (not-false y.before.args.visited y.if1.false, ← h.ensures, not-false h.result c.before.before.before.before.if2.false, ← r.ensures, not-false r.result c.before.before.if3.false, c.in-clips.ensures, c.before.position.ensures.1)
+    rw (y.if-not-visited.false, ← h.ensures, c.if-not-contains.false, ← r.ensures, c.if-not-reaches.false, c.in_clips.ensures, c.position-at.ensures.1)
 
-pub fine-spec : {M : Type 1} → statement M
-fine-spec =
+pub fine_spec : {M : Type 1} → statement M
+fine_spec =
     tie.close
     (tie.spec
-    returns
-    element-copy-out-t19
+    returns-then-not-visited
+    bounds-flags-x
     contains-requires
-    returns-2
+    returns-then-not-contains
     reaches-requires
-    returns-3
-    cast-position
-    position-requires
-    in-clips-requires
-    returns-4)
+    returns-then-not-reaches
+    overflow_cast-x
+    position-at-requires
+    in_clips-requires
+    returns)

@@ -3,20 +3,20 @@ use borrow.Author.Rules.{rules}
 use Rattle.tree_taps.proofs.fine.reaches.Statement.{statement}
 use Rattle.tree_taps.proofs.fine.reaches.Tie as tie
 
-element-copy-out-clip-at : tie.Need-element-copy-out-clip-at
-element-copy-out-clip-at c = search rules
+bounds-kind-x : tie.Need-bounds-kind-x
+bounds-kind-x c = search rules
 
-clip-at-requires : tie.Need-clip-at-requires
-clip-at-requires c κs = search rules
+clip_at-own-requires : tie.Need-clip_at-own-requires
+clip_at-own-requires c κs = search rules
 
-affine-at-requires : tie.Need-affine-at-requires
-affine-at-requires c κs = search rules
+affine_at-placed-requires : tie.Need-affine_at-placed-requires
+affine_at-placed-requires c κs = search rules
 
-rect-at-requires : tie.Need-rect-at-requires
-rect-at-requires c κs = search rules
+rect_at-area-requires : tie.Need-rect_at-area-requires
+rect_at-area-requires c κs = search rules
 
-insets-at-requires : tie.Need-insets-at-requires
-insets-at-requires c κs = search rules
+insets_at-more-requires : tie.Need-insets_at-more-requires
+insets_at-more-requires c κs = search rules
 
 inverse-requires : tie.Need-inverse-requires
 inverse-requires c κs = search rules
@@ -26,17 +26,17 @@ contains-requires c κs = search rules
 
 returns : tie.Need-returns
 unfolding reaches
-returns c = rw (c.contains.ensures, c.before.inverse.ensures, c.before.before.insets-at.ensures, c.before.before.before.rect-at.ensures, c.before.before.before.before.affine-at.ensures, c.before.before.before.before.before.clip-at.ensures)
+returns c = rw (c.contains.ensures, c.inverse.ensures, c.insets_at-more.ensures, c.rect_at-area.ensures, c.affine_at-placed.ensures, c.clip_at-own.ensures)
 
-pub reaches-spec : {M : Type 1} → statement M
-reaches-spec =
+pub reaches_spec : {M : Type 1} → statement M
+reaches_spec =
     tie.close
     (tie.spec
-    element-copy-out-clip-at
-    clip-at-requires
-    affine-at-requires
-    rect-at-requires
-    insets-at-requires
+    bounds-kind-x
+    clip_at-own-requires
+    affine_at-placed-requires
+    rect_at-area-requires
+    insets_at-more-requires
     inverse-requires
     contains-requires
     returns)

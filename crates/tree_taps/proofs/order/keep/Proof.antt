@@ -3,23 +3,23 @@ use Rattle.tree_taps.specs.order.Order.{kept}
 use Rattle.tree_taps.proofs.order.keep.Statement.{statement}
 use Rattle.tree_taps.proofs.order.keep.Tie as tie
 
-returns : tie.Need-returns
-returns c = rw (not-true c.before.args.take c.if1.true)
+returns-then-not-take : tie.Need-returns-then-not-take
+returns-then-not-take c = rw c.if-not-take.true
 
-returns-2 : tie.Need-returns-2
+returns-then-best-eq256 : tie.Need-returns-then-best-eq256
 unfolding kept
-returns-2 c = let A = c.before.before.args in rw (not-false A.take c.before.if1.false, eq-eqb A.best 256 c.if2.true)
+returns-then-best-eq256 c = let A = c.args in rw (c.if-not-take.false, eq-eqb A.best 256 c.if-best-eq256.true)
 
 stronger-requires : tie.Need-stronger-requires
-stronger-requires c κs = let s = c.before.before in (s.requires.0, s.requires.1, s.requires.3 (not-false s.args.take c.before.if1.false), s.requires.2 c.if2.false)
+stronger-requires c κs = let s = c.before.before in (s.requires.0, s.requires.1, s.requires.3 c.if-not-take.false, s.requires.2 c.if-best-eq256.false)
 
-returns-3 : tie.Need-returns-3
+returns-then-stronger : tie.Need-returns-then-stronger
 unfolding kept
-returns-3 c = let A = c.before.before.before.before.args in rw (not-false A.take c.before.before.before.if1.false, ne_eqb A.best 256 c.before.before.if2.false, ← c.before.stronger.ensures, c.if3.true)
+returns-then-stronger c = let A = c.args in rw (c.if-not-take.false, ne_eqb A.best 256 c.if-best-eq256.false, ← c.stronger.ensures, c.if-stronger.true)
 
-returns-4 : tie.Need-returns-4
+returns : tie.Need-returns
 unfolding kept
-returns-4 c = let A = c.before.before.before.before.args in rw (not-false A.take c.before.before.before.if1.false, ne_eqb A.best 256 c.before.before.if2.false, ← c.before.stronger.ensures, c.if3.false)
+returns c = let A = c.args in rw (c.if-not-take.false, ne_eqb A.best 256 c.if-best-eq256.false, ← c.stronger.ensures, c.if-stronger.false)
 
 pub keep_spec : {M : Type 1} → statement M
-keep_spec = tie.close (tie.spec returns returns-2 stronger-requires returns-3 returns-4)
+keep_spec = tie.close (tie.spec returns-then-not-take returns-then-best-eq256 stronger-requires returns-then-stronger returns)

@@ -6,5 +6,5 @@ use Rattle.tree_taps.proofs.order.no_higher.Tie as tie
 returns : tie.Need-returns
 returns c = rw (to_z-of_z w32 c.args.a c.ranges.a, to_z-of_z w32 c.args.b c.ranges.b)
 
-pub no-higher-spec : {M : Type 1} → statement M
-no-higher-spec = tie.close (tie.spec returns)
+pub no_higher_spec : {M : Type 1} → statement M
+no_higher_spec = tie.close (tie.spec returns)

@@ -7,88 +7,88 @@ use borrow.Author.Rules.{rules}
 use Rattle.tree_taps.proofs.order.stronger.Statement.{statement}
 use Rattle.tree_taps.proofs.order.stronger.Tie as tie
 
-cast-position : tie.Need-overflow-cast-position
-cast-position c = search rules
+overflow_cast-x : tie.Need-overflow_cast-x
+overflow_cast-x c = search rules
 
-position-requires : tie.Need-position-requires
-position-requires c κs = search rules
+position-at_x-requires : tie.Need-position-at_x-requires
+position-at_x-requires c κs = search rules
 
-cast-position-2 : tie.Need-overflow-cast-position-2
-cast-position-2 c = search rules
+overflow_cast-y : tie.Need-overflow_cast-y
+overflow_cast-y c = search rules
 
-position-requires-2 : tie.Need-position-requires-2
-position-requires-2 c κs = search rules
+position-at_y-requires : tie.Need-position-at_y-requires
+position-at_y-requires c κs = search rules
 
-mul-depth-x : tie.Need-overflow-mul-depth-x
-mul-depth-x c = search rules
+offset_bounds-depth-at_x : tie.Need-offset_bounds-depth-at_x
+offset_bounds-depth-at_x c = search rules
 
-element-copy-out-depth-x : tie.Need-element-copy-out-depth-x
-element-copy-out-depth-x c = search rules
+bounds-depth-at_x : tie.Need-bounds-depth-at_x
+bounds-depth-at_x c = search rules
 
-mul-depth-y : tie.Need-overflow-mul-depth-y
-mul-depth-y c = search rules
+offset_bounds-depth-at_y : tie.Need-offset_bounds-depth-at_y
+offset_bounds-depth-at_y c = search rules
 
-element-copy-out-depth-y : tie.Need-element-copy-out-depth-y
-element-copy-out-depth-y c = search rules
+bounds-depth-at_y : tie.Need-bounds-depth-at_y
+bounds-depth-at_y c = search rules
 
-mul-generation-x : tie.Need-overflow-mul-generation-x
-mul-generation-x c = search rules
+offset_bounds-generation-x : tie.Need-offset_bounds-generation-x
+offset_bounds-generation-x c = search rules
 
-element-copy-out-generation-x : tie.Need-element-copy-out-generation-x
-element-copy-out-generation-x c = search rules
+bounds-generation-x : tie.Need-bounds-generation-x
+bounds-generation-x c = search rules
 
-mul-generation-y : tie.Need-overflow-mul-generation-y
-mul-generation-y c = search rules
+offset_bounds-generation-y : tie.Need-offset_bounds-generation-y
+offset_bounds-generation-y c = search rules
 
-element-copy-out-generation-y : tie.Need-element-copy-out-generation-y
-element-copy-out-generation-y c = search rules
+bounds-generation-y : tie.Need-bounds-generation-y
+bounds-generation-y c = search rules
 
-mul-level-x : tie.Need-overflow-mul-level-x
-mul-level-x c = search rules
+offset_bounds-level-x : tie.Need-offset_bounds-level-x
+offset_bounds-level-x c = search rules
 
-element-copy-out-level-x : tie.Need-element-copy-out-level-x
-element-copy-out-level-x c = search rules
+bounds-level-x : tie.Need-bounds-level-x
+bounds-level-x c = search rules
 
-mul-level-y : tie.Need-overflow-mul-level-y
-mul-level-y c = search rules
+offset_bounds-level-y : tie.Need-offset_bounds-level-y
+offset_bounds-level-y c = search rules
 
-element-copy-out-level-y : tie.Need-element-copy-out-level-y
-element-copy-out-level-y c = search rules
+bounds-level-y : tie.Need-bounds-level-y
+bounds-level-y c = search rules
 
 lower-requires : tie.Need-lower-requires
 lower-requires c κs = search rules
 
-no-higher-requires : tie.Need-no-higher-requires
-no-higher-requires c κs = search rules
+no_higher-requires : tie.Need-no_higher-requires
+no_higher-requires c κs = search rules
 
 returns : tie.Need-returns
 unfolding stronger_at
 returns c =
-    let A = c.before.before.before.before.before.before.before.before.before.before.args in
+    let A = c.args in
     let by = to_z-of_z w32 (get_or A.level.now A.y (pos 0)) (search rules) in
     let bx = to_z-of_z w32 (get_or A.level.now A.x (pos 0)) (search rules) in
-    rw (c.no-higher.ensures, c.before.lower.ensures, by, bx, c.before.before.before.before.before.before.before.before.position2.ensures.1, c.before.before.before.before.before.before.before.before.before.position.ensures.1)
+    rw (c.no_higher.ensures, c.lower.ensures, by, bx, c.position-at_y.ensures.1, c.position-at_x.ensures.1)
 
-pub stronger-spec : {M : Type 1} → statement M
-stronger-spec =
+pub stronger_spec : {M : Type 1} → statement M
+stronger_spec =
     tie.close
     (tie.spec
-    cast-position
-    position-requires
-    cast-position-2
-    position-requires-2
-    mul-depth-x
-    element-copy-out-depth-x
-    mul-depth-y
-    element-copy-out-depth-y
-    mul-generation-x
-    element-copy-out-generation-x
-    mul-generation-y
-    element-copy-out-generation-y
-    mul-level-x
-    element-copy-out-level-x
-    mul-level-y
-    element-copy-out-level-y
+    overflow_cast-x
+    position-at_x-requires
+    overflow_cast-y
+    position-at_y-requires
+    offset_bounds-depth-at_x
+    bounds-depth-at_x
+    offset_bounds-depth-at_y
+    bounds-depth-at_y
+    offset_bounds-generation-x
+    bounds-generation-x
+    offset_bounds-generation-y
+    bounds-generation-y
+    offset_bounds-level-x
+    bounds-level-x
+    offset_bounds-level-y
+    bounds-level-y
     lower-requires
-    no-higher-requires
+    no_higher-requires
     returns)

@@ -13,160 +13,160 @@ use borrow.Author.Rules.{rules}
 use Rattle.tree_taps.proofs.paths.write_path.Statement.{statement}
 use Rattle.tree_taps.proofs.paths.write_path.Tie as tie
 
-abbrev invariant-loop : tie.invariant-loop
-invariant-loop order depth generation count x at room₀ len d₀ j₀ room d j = (j ≤ at) × (1 ≤ d) × (d ≤ get_or depth j 0) × (length room ≡ length room₀) × (ids_in_front (map (id_of generation) (reverse (back d order depth j))) room ≡ ids_in_front (map (id_of generation) (reverse (above_at order depth at))) room₀)
+abbrev invariant-loop-j : tie.invariant-loop-j
+invariant-loop-j order depth generation count x at room₀ len d₀ j₀ room d j = (j ≤ at) × (1 ≤ d) × (d ≤ get_or depth j 0) × (length room ≡ length room₀) × (ids_in_front (map (id_of generation) (reverse (back d order depth j))) room ≡ ids_in_front (map (id_of generation) (reverse (above_at order depth at))) room₀)
 
-abbrev decreases-loop : tie.decreases-loop
-decreases-loop order depth generation count x at room₀ len d₀ j₀ room d j = j
+abbrev decreases-loop-j : tie.decreases-loop-j
+decreases-loop-j order depth generation count x at room₀ len d₀ j₀ room d j = j
 
 -- the depths of the table
-one : (s : tie.Start invariant-loop decreases-loop) (j : ℕ) → j < s.args.count → 1 ≤ get_or s.args.depth.now j 0
+one : (s : tie.Start invariant-loop-j decreases-loop-j) (j : ℕ) → j < s.args.count → 1 ≤ get_or s.args.depth.now j 0
 one s j h = deep_one s.args.count s.args.depth.now (omega (arith, s.requires.1, s.requires.4)) s.requires.5 j h
 
-most : (s : tie.Start invariant-loop decreases-loop) (j : ℕ) → j < s.args.count → get_or s.args.depth.now j 0 ≤ j + 1
+most : (s : tie.Start invariant-loop-j decreases-loop-j) (j : ℕ) → j < s.args.count → get_or s.args.depth.now j 0 ≤ j + 1
 most s j h = deep_most s.args.count s.args.depth.now (omega (arith, s.requires.1, s.requires.4)) s.requires.5 j h
 
-mul-len : tie.Need-overflow-mul-len invariant-loop decreases-loop
-mul-len c = search rules
+offset_bounds-depth-at : tie.Need-offset_bounds-depth-at invariant-loop-j decreases-loop-j
+offset_bounds-depth-at c = search rules
 
-element-copy-out-len : tie.Need-element-copy-out-len invariant-loop decreases-loop
-element-copy-out-len c = search rules
+bounds-depth-at : tie.Need-bounds-depth-at invariant-loop-j decreases-loop-j
+bounds-depth-at c = search rules
 
-cast-len : tie.Need-overflow-cast-len invariant-loop decreases-loop
-cast-len c = let s = c.before.before in omega (arith, most s s.args.at s.requires.0, s.requires.0, s.requires.1)
+overflow_cast-len : tie.Need-overflow_cast-len invariant-loop-j decreases-loop-j
+overflow_cast-len c = let s = c.before.before in omega (arith, most s s.args.at s.requires.0, s.requires.0, s.requires.1)
 
-id-of-requires : tie.Need-id-of-requires invariant-loop decreases-loop
-id-of-requires c κs = search rules
+id_of-own-requires : tie.Need-id_of-own-requires invariant-loop-j decreases-loop-j
+id_of-own-requires c κs = search rules
 
-sub-put-id : tie.Need-overflow-sub-put-id invariant-loop decreases-loop
-sub-put-id c = let s = c.before.before.before.before in omega (arith, one s s.args.at s.requires.0)
+overflow_sub-len : tie.Need-overflow_sub-len invariant-loop-j decreases-loop-j
+overflow_sub-len c = let s = c.before.before.before.before in omega (arith, one s s.args.at s.requires.0)
 
-put-id-requires : tie.Need-put-id-requires invariant-loop decreases-loop
-put-id-requires c κs = let s = c.before.before.before.before in
+put_id-requires : tie.Need-put_id-requires invariant-loop-j decreases-loop-j
+put_id-requires c κs = let s = c.before.before.before.before in
     let o = one s s.args.at s.requires.0 in
     let m = most s s.args.at s.requires.0 in
     (omega (arith, o, m, s.requires.0, s.requires.1), omega (arith, o, m, s.requires.0, s.requires.1, s.requires.7))
 
-loop-holds : tie.Need-loop-init invariant-loop decreases-loop
-loop-holds c = let s = c.before.before.before.before.before.before.before in (omega arith, one s s.args.at s.requires.0, omega arith, refl, refl)
+loop-j-init : tie.Need-loop-j-init invariant-loop-j decreases-loop-j
+loop-j-init c = let s = c.before.before.before.before.before.before.before in (omega arith, one s s.args.at s.requires.0, omega arith, refl, refl)
 
 -- the way back to the start, and the room's length
-abbrev to_start : tie.At-loop invariant-loop decreases-loop → tie.Start invariant-loop decreases-loop
+abbrev to_start : tie.At-loop-j invariant-loop-j decreases-loop-j → tie.Start invariant-loop-j decreases-loop-j
 to_start c = c.before.before.before.before.before.before.before.before
 
-long : (c : tie.At-loop invariant-loop decreases-loop) → length c.loop.room ≡ length (to_start c).args.room.now
+long : (c : tie.At-loop-j invariant-loop-j decreases-loop-j) → length c.loop-j.room ≡ length (to_start c).args.room.now
 long c =
     let A = (to_start c).args in
-    let P = c.before.before.before.put_id in
-    c.loop.invariant.3 ∙ ap length P.ensures ∙ put_length A.room.now (get_or A.depth.now A.at 0 - 1) c.before.before.before.before.before.id-of.result
+    let P = c.put_id in
+    c.loop-j.invariant.3 ∙ ap length P.ensures ∙ put_length A.room.now (get_or A.depth.now A.at 0 - 1) c.id_of-own.result
 
-sub-j : tie.Need-overflow-sub-j invariant-loop decreases-loop
-sub-j c = search rules
+overflow_sub-j : tie.Need-overflow_sub-j invariant-loop-j decreases-loop-j
+overflow_sub-j c = search rules
 
-mul-e : tie.Need-overflow-mul-e invariant-loop decreases-loop
-mul-e c = search rules
+offset_bounds-depth-j : tie.Need-offset_bounds-depth-j invariant-loop-j decreases-loop-j
+offset_bounds-depth-j c = search rules
 
-element-copy-out-e : tie.Need-element-copy-out-e invariant-loop decreases-loop
-element-copy-out-e c = search rules
+bounds-depth-j : tie.Need-bounds-depth-j invariant-loop-j decreases-loop-j
+bounds-depth-j c = search rules
 
-cast-e : tie.Need-overflow-cast-e invariant-loop decreases-loop
-cast-e c = let l = c.before.before in let s = to_start l in omega (arith, most s (l.loop.j - 1) (omega (arith, l.loop.invariant.0, s.pre.0, c.before.loop-test.true)), l.loop.invariant.0, s.pre.0, s.pre.1)
+overflow_cast-e : tie.Need-overflow_cast-e invariant-loop-j decreases-loop-j
+overflow_cast-e c = let l = c.before.before in let s = to_start l in omega (arith, most s (l.loop-j.j - 1) (omega (arith, l.loop-j.invariant.0, s.pre.0, c.loop-j-test.true)), l.loop-j.invariant.0, s.pre.0, s.pre.1)
 
-mul-id-of : tie.Need-overflow-mul-id-of invariant-loop decreases-loop
-mul-id-of c = search rules
+offset_bounds-order-j : tie.Need-offset_bounds-order-j invariant-loop-j decreases-loop-j
+offset_bounds-order-j c = search rules
 
-element-copy-out-id-of : tie.Need-element-copy-out-id-of invariant-loop decreases-loop
-element-copy-out-id-of c = search rules
+bounds-order-j : tie.Need-bounds-order-j invariant-loop-j decreases-loop-j
+bounds-order-j c = search rules
 
-id-of-requires-2 : tie.Need-id-of-requires-2 invariant-loop decreases-loop
-id-of-requires-2 c κs = let l = c.before.before.before.before in (to_start l).pre.6 (l.loop.j - 1) (omega (arith, l.loop.invariant.0, (to_start l).pre.0, c.before.before.before.loop-test.true))
+id_of-next-requires : tie.Need-id_of-next-requires invariant-loop-j decreases-loop-j
+id_of-next-requires c κs = let l = c.before.before.before.before in (to_start l).pre.6 (l.loop-j.j - 1) (omega (arith, l.loop-j.invariant.0, (to_start l).pre.0, c.loop-j-test.true))
 
-sub-put-id-2 : tie.Need-overflow-sub-put-id-2 invariant-loop decreases-loop
-sub-put-id-2 c = let l = c.before.before.before.before.before.before in one (to_start l) (l.loop.j - 1) (omega (arith, l.loop.invariant.0, (to_start l).pre.0, c.before.before.before.before.before.loop-test.true))
+overflow_sub-d : tie.Need-overflow_sub-d invariant-loop-j decreases-loop-j
+overflow_sub-d c = let l = c.before.before.before.before.before.before in one (to_start l) (l.loop-j.j - 1) (omega (arith, l.loop-j.invariant.0, (to_start l).pre.0, c.loop-j-test.true))
 
-put-id-requires-2 : tie.Need-put-id-requires-2 invariant-loop decreases-loop
-put-id-requires-2 c κs =
+put_id-requires-then-e-d : tie.Need-put_id-requires-then-e-d invariant-loop-j decreases-loop-j
+put_id-requires-then-e-d c κs =
     let l = c.before.before.before.before.before.before in
     let s = to_start l in
-    let h = c.before.before.before.before.before.loop-test.true in
-    let m = most s (l.loop.j - 1) (omega (arith, l.loop.invariant.0, s.pre.0, h)) in
-    (omega (arith, m, l.loop.invariant.0, s.pre.0, s.pre.1, h), omega (arith, m, l.loop.invariant.0, s.pre.0, s.pre.1, h, long l, s.pre.7))
+    let h = c.loop-j-test.true in
+    let m = most s (l.loop-j.j - 1) (omega (arith, l.loop-j.invariant.0, s.pre.0, h)) in
+    (omega (arith, m, l.loop-j.invariant.0, s.pre.0, s.pre.1, h), omega (arith, m, l.loop-j.invariant.0, s.pre.0, s.pre.1, h, long l, s.pre.7))
 
-loop-less : tie.Need-loop-smaller invariant-loop decreases-loop
-loop-less c = search rules
+loop-j-smaller-then-e-d : tie.Need-loop-j-smaller-then-e-d invariant-loop-j decreases-loop-j
+loop-j-smaller-then-e-d c = search rules
 
-loop-again : tie.Need-loop-preserved invariant-loop decreases-loop
-loop-again c =
+loop-j-preserved-then-e-d : tie.Need-loop-j-preserved-then-e-d invariant-loop-j decreases-loop-j
+loop-j-preserved-then-e-d c =
     let l = c.before.before.before.before.before.before.before.before.before in
-    let L = l.loop in
+    let L = l.loop-j in
     let s = to_start l in
     let A = s.args in
-    let h = c.before.before.before.before.before.before.before.before.loop-test.true in
-    let P = c.before.before.put-id2 in
-    let E = rw c.before.before.before.before.id-of2.ensures at P.ensures in (
+    let h = c.loop-j-test.true in
+    let P = c.put_id-then-e-d in
+    let E = rw c.id_of-next.ensures at P.ensures in (
       omega (arith, L.invariant.0),
       one s (L.j - 1) (omega (arith, L.invariant.0, s.pre.0, h)),
       omega arith,
       ap length E ∙ put_length L.room (get_or A.depth.now (L.j - 1) 0 - 1) (id_of A.generation.now (get_or A.order.now (L.j - 1) 0)) ∙ L.invariant.3,
-      path_turn (id_of A.generation.now) A.count A.order.now A.depth.now s.pre.1 (omega (arith, s.pre.1, s.pre.3)) (omega (arith, s.pre.1, s.pre.4)) s.pre.5 L.room P.new.0 _ L.d L.j (omega (arith, h)) (omega (arith, L.invariant.0, s.pre.0)) c.before.before.before.before.before.before.if1.true (omega (arith, long l, s.pre.7)) L.invariant.4 E,
+      path_turn (id_of A.generation.now) A.count A.order.now A.depth.now s.pre.1 (omega (arith, s.pre.1, s.pre.3)) (omega (arith, s.pre.1, s.pre.4)) s.pre.5 L.room P.new.0 _ L.d L.j (omega (arith, h)) (omega (arith, L.invariant.0, s.pre.0)) c.if-e-d.true (omega (arith, long l, s.pre.7)) L.invariant.4 E,
     )
 
-loop-less-2 : tie.Need-loop-smaller-2 invariant-loop decreases-loop
-loop-less-2 c = search rules
+loop-j-smaller : tie.Need-loop-j-smaller invariant-loop-j decreases-loop-j
+loop-j-smaller c = search rules
 
-loop-again-2 : tie.Need-loop-preserved-2 invariant-loop decreases-loop
-loop-again-2 c =
+loop-j-preserved : tie.Need-loop-j-preserved invariant-loop-j decreases-loop-j
+loop-j-preserved c =
     let l = c.before.before.before in
-    let L = l.loop in
+    let L = l.loop-j in
     let s = to_start l in
     let A = s.args in
-    let h = c.before.before.loop-test.true in (
+    let h = c.loop-j-test.true in (
       omega (arith, L.invariant.0),
       L.invariant.1,
-      c.if1.false,
+      c.if-e-d.false,
       L.invariant.3,
-      path_skip (id_of A.generation.now) A.count A.order.now A.depth.now s.pre.1 (omega (arith, s.pre.1, s.pre.3)) (omega (arith, s.pre.1, s.pre.4)) s.pre.5 L.room _ L.d L.j (omega (arith, h)) (omega (arith, L.invariant.0, s.pre.0)) c.if1.false L.invariant.4,
+      path_skip (id_of A.generation.now) A.count A.order.now A.depth.now s.pre.1 (omega (arith, s.pre.1, s.pre.3)) (omega (arith, s.pre.1, s.pre.4)) s.pre.5 L.room _ L.d L.j (omega (arith, h)) (omega (arith, L.invariant.0, s.pre.0)) c.if-e-d.false L.invariant.4,
     )
 
-same_length : tie.Need-same-length invariant-loop decreases-loop
-same_length c = long c.before
+shape_of-room : tie.Need-shape_of-room invariant-loop-j decreases-loop-j
+shape_of-room c = long c.before
 
-returns : tie.Need-returns invariant-loop decreases-loop
+returns : tie.Need-returns invariant-loop-j decreases-loop-j
 unfolding path_at
 returns c =
     let l = c.before in
-    let L = l.loop in
+    let L = l.loop-j in
     let s = to_start l in
     let A = s.args in
-    let P = l.before.before.before.put_id in
-    let E = rw l.before.before.before.before.before.id-of.ensures at P.ensures in
-    path_ends (id_of A.generation.now) A.count A.order.now A.depth.now s.pre.1 (omega (arith, s.pre.1, s.pre.3)) (omega (arith, s.pre.1, s.pre.4)) s.pre.5 A.room.now P.new.0 L.room A.x A.at L.d L.j s.pre.0 s.pre.7 (omega (arith, c.loop-test.false)) E L.invariant.4
+    let P = l.put_id in
+    let E = rw l.id_of-own.ensures at P.ensures in
+    path_ends (id_of A.generation.now) A.count A.order.now A.depth.now s.pre.1 (omega (arith, s.pre.1, s.pre.3)) (omega (arith, s.pre.1, s.pre.4)) s.pre.5 A.room.now P.new.0 L.room A.x A.at L.d L.j s.pre.0 s.pre.7 (omega (arith, c.loop-j-test.false)) E L.invariant.4
 
-pub write-path-spec : {M : Type 1} → statement M
-write-path-spec =
+pub write_path_spec : {M : Type 1} → statement M
+write_path_spec =
     tie.close
     (tie.spec
-    invariant-loop
-    decreases-loop
-    mul-len
-    element-copy-out-len
-    cast-len
-    id-of-requires
-    sub-put-id
-    put-id-requires
-    loop-holds
-    sub-j
-    mul-e
-    element-copy-out-e
-    cast-e
-    mul-id-of
-    element-copy-out-id-of
-    id-of-requires-2
-    sub-put-id-2
-    put-id-requires-2
-    loop-less
-    loop-again
-    loop-less-2
-    loop-again-2
-    same_length
+    invariant-loop-j
+    decreases-loop-j
+    offset_bounds-depth-at
+    bounds-depth-at
+    overflow_cast-len
+    id_of-own-requires
+    overflow_sub-len
+    put_id-requires
+    loop-j-init
+    overflow_sub-j
+    offset_bounds-depth-j
+    bounds-depth-j
+    overflow_cast-e
+    offset_bounds-order-j
+    bounds-order-j
+    id_of-next-requires
+    overflow_sub-d
+    put_id-requires-then-e-d
+    loop-j-smaller-then-e-d
+    loop-j-preserved-then-e-d
+    loop-j-smaller
+    loop-j-preserved
+    shape_of-room
     returns)

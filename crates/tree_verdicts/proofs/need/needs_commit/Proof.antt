@@ -6,8 +6,8 @@ use Rattle.tree_verdicts.proofs.need.needs_commit.Tie as tie
 
 needs-requires : tie.Need-needs-requires
 needs-requires c κs =
-    let s = c.before.before.before.before in
-    let z = sized s.args.t1 s.well-formed.0 in
+    let s = c in
+    let z = sized s.args.t1 s.well_formed.0 in
     let p = sound_places s.args.t1 z s.requires in
     let u = sound_used s.args.t1 z s.requires in
     (p.0, p.1, p.2, u.0, u.1)
@@ -16,5 +16,5 @@ returns : tie.Need-returns
 unfolding needs_commit
 returns c = c.needs.ensures
 
-pub needs-commit-spec : {M : Type 1} → statement M
-needs-commit-spec = tie.close (tie.spec needs-requires returns)
+pub needs_commit_spec : {M : Type 1} → statement M
+needs_commit_spec = tie.close (tie.spec needs-requires returns)

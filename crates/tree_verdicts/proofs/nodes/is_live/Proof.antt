@@ -9,35 +9,35 @@ use Rattle.link_forest.specs.Table.{index_of}
 use Rattle.tree_verdicts.proofs.nodes.is_live.Statement.{statement}
 use Rattle.tree_verdicts.proofs.nodes.is_live.Tie as tie
 
-position-requires : tie.Need-position-requires
-position-requires c κs = search rules
+position-at-requires : tie.Need-position-at-requires
+position-at-requires c κs = search rules
 
-returns : tie.Need-returns
-returns c =
-    let A = c.before.before.args in
-    let e = c.before.position.ensures.1 in
+returns-then-at-count : tie.Need-returns-then-at-count
+returns-then-at-count c =
+    let A = c.args in
+    let e = c.position-at.ensures.1 in
     rw (le-ltb (index_of A.i.0 (take A.count A.order.now)) A.count (omega arith))
 
 -- the slot is in the table
-found : (c : tie.Else1) → let A = c.before.before.args in ltb (index_of A.i.0 (take A.count A.order.now)) A.count ≡ true
+found : (c : tie.Else-at-count) → let A = c.args in ltb (index_of A.i.0 (take A.count A.order.now)) A.count ≡ true
 found c =
-    let A = c.before.before.args in
-    let e = c.before.position.ensures.1 in
+    let A = c.args in
+    let e = c.position-at.ensures.1 in
     lt-ltb (index_of A.i.0 (take A.count A.order.now)) A.count (omega arith)
 
-cast-x : tie.Need-overflow-cast-x
-cast-x c = search rules
+overflow_cast-x : tie.Need-overflow_cast-x
+overflow_cast-x c = search rules
 
-mul-result : tie.Need-overflow-mul-result
-mul-result c = search rules
+offset_bounds-generation-x : tie.Need-offset_bounds-generation-x
+offset_bounds-generation-x c = search rules
 
-element-copy-out-result : tie.Need-element-copy-out-result
-element-copy-out-result c = omega (arith, c.before.before.before.requires.2 c.before.before.before.args.i.0 (found c.before))
+bounds-generation-x : tie.Need-bounds-generation-x
+bounds-generation-x c = omega (arith, c.requires.2 c.args.i.0 (found c.before))
 
-returns-2 : tie.Need-returns-2
-returns-2 c = rw (found c.before.before.before)
+returns : tie.Need-returns
+returns c = rw (found c.before.before.before)
 
-pub is-live-spec : {M : Type 1} → statement M
-is-live-spec =
+pub is_live_spec : {M : Type 1} → statement M
+is_live_spec =
     tie.close
-    (tie.spec position-requires returns cast-x mul-result element-copy-out-result returns-2)
+    (tie.spec position-at-requires returns-then-at-count overflow_cast-x offset_bounds-generation-x bounds-generation-x returns)

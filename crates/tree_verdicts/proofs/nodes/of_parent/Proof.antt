@@ -6,51 +6,51 @@ use Rattle.tree_verdicts.proofs.nodes.Nodes.{checked_stopped, checked_both}
 use Rattle.tree_verdicts.proofs.nodes.of_parent.Statement.{statement}
 use Rattle.tree_verdicts.proofs.nodes.of_parent.Tie as tie
 
-enum_told : tie.Need-enum-told
-enum_told c = search rules
+enum_told-1 : tie.Need-enum_told-1
+enum_told-1 c = search rules
 
-enum-told-2 : tie.Need-enum-told-2
-enum-told-2 c = search rules
+enum_told-in_default : tie.Need-enum_told-in_default
+enum_told-in_default c = search rules
 
-returns : tie.Need-returns
-returns c =
-    let A = c.before.before.args in
-    checked_stopped A.v A.v (parent_in A.order.now A.count A.generation.now A.parent) no.DeadParent c.enum-told2.given.0.0 refl c.enum-told2.given.1
+returns-in_default : tie.Need-returns-in_default
+returns-in_default c =
+    let A = c.args in
+    checked_stopped A.v A.v (parent_in A.order.now A.count A.generation.now A.parent) no.DeadParent c.in_default.field-0 refl c.in_default.is
 
-enum-known-parent : tie.Need-enum-known-parent
-enum-known-parent c = search rules
+enum_known-parent : tie.Need-enum_known-parent
+enum_known-parent c = search rules
 
-enum-told-3 : tie.Need-enum-told-3
-enum-told-3 c = search rules
+enum_told-in_default-parent : tie.Need-enum_told-in_default-parent
+enum_told-in_default-parent c = search rules
 
 -- no parent
-returns-2 : tie.Need-returns-2
-returns-2 c =
-    let e = c.before.before in
-    let A = e.before.before.args in
-    e.enum_told.given.1 ∙ sym (checked_both A.v (parent_in A.order.now A.count A.generation.now A.parent) no.DeadParent e.enum_told.given.1 (rw c.enum-told3.given.1))
+returns-in_default-parent : tie.Need-returns-in_default-parent
+returns-in_default-parent c =
+    let e = c.before in
+    let A = e.args in
+    e.in-Accepted.is ∙ sym (checked_both A.v (parent_in A.order.now A.count A.generation.now A.parent) no.DeadParent e.in-Accepted.is (rw c.in_default-parent.is))
 
-is-live-requires : tie.Need-is-live-requires
-is-live-requires c κs =
-    let e = c.before.before.before in
-    e.before.before.requires e.enum_told.given.1
+is_live-live-requires : tie.Need-is_live-live-requires
+is_live-live-requires c κs =
+    let e = c.before in
+    e.requires e.in-Accepted.is
 
 check-requires : tie.Need-check-requires
 check-requires c κs = search rules
 
-returns-3 : tie.Need-returns-3
-returns-3 c = rw (c.check.ensures, c.before.is_live_lem.ensures, c.before.before.before.parent.given.1)
+returns : tie.Need-returns
+returns c = rw (c.check.ensures, c.is_live-live.ensures, c.in-Some.is)
 
-pub of-parent-spec : {M : Type 1} → statement M
-of-parent-spec =
+pub of_parent_spec : {M : Type 1} → statement M
+of_parent_spec =
     tie.close
     (tie.spec
-    enum_told
-    enum-told-2
-    returns
-    enum-known-parent
-    enum-told-3
-    returns-2
-    is-live-requires
+    enum_told-1
+    enum_told-in_default
+    returns-in_default
+    enum_known-parent
+    enum_told-in_default-parent
+    returns-in_default-parent
+    is_live-live-requires
     check-requires
-    returns-3)
+    returns)

@@ -34,76 +34,76 @@ tree s t =
 sizes : (s : tie.Start) (t : Tree) → Sized (tree s t)
 sizes s t = record { order = s.requires.0; depth = s.requires.1; free = s.requires.2; mark = s.requires.3; entries_free = s.requires.4; dirty = s.requires.5 }
 
-sound-tables-requires : tie.Need-sound-tables-requires
-sound-tables-requires c κs = c.requires
+sound_tables-sound-requires : tie.Need-sound_tables-sound-requires
+sound_tables-sound-requires c κs = c.requires
 
-check-requires : tie.Need-check-requires
-check-requires c κs = search rules
+check-held-requires : tie.Need-check-held-requires
+check-held-requires c κs = search rules
 
 -- the first test is `held`
-told : (c : tie.After-check) (t : Tree) → c.check.result ≡ held (tree c.before.before t)
-told c t = c.check.ensures ∙ ap (λ (b : Bool). checked is.Accepted b no.Unsound) (c.before.sound-tables.ensures t)
+told : (c : tie.After-check-held) (t : Tree) → c.check-held.result ≡ held (tree c.before.before t)
+told c t = c.check-held.ensures ∙ ap (λ (b : Bool). checked is.Accepted b no.Unsound) (c.sound_tables-sound.ensures t)
 
-enum_told : tie.Need-enum-told
-enum_told c = search rules
+enum_told-1 : tie.Need-enum_told-1
+enum_told-1 c = search rules
 
-enum-told-2 : tie.Need-enum-told-2
-enum-told-2 c = search rules
+enum_told-in_default : tie.Need-enum_told-in_default
+enum_told-in_default c = search rules
 
 -- refused before
-returns : tie.Need-returns
-returns c =
+returns-in_default : tie.Need-returns-in_default
+returns-in_default c =
     λ t.
-    let h = c.before.before in
+    let h = c.before in
     let s = h.before.before in
     let A = s.args in
     let T = tree s t in
-    let q = c.enum-told2.given.0.0 in
-    let e : held T ≡ is.Refused q = sym (told h t) ∙ c.enum-told2.given.1 in
+    let q = c.in_default.field-0 in
+    let e : held T ≡ is.Refused q = sym (told h t) ∙ c.in_default.is in
     let a = checked_stays (held T) (known A.asked) no.UnknownFlags q e in
-    c.enum-told2.given.1 ∙ sym (checked_stays (checked (held T) (known A.asked) no.UnknownFlags) (not (needs_commit T)) no.NeedsCommit q a)
+    c.in_default.is ∙ sym (checked_stays (checked (held T) (known A.asked) no.UnknownFlags) (not (needs_commit T)) no.NeedsCommit q a)
 
-is-known-requires : tie.Need-is-known-requires
-is-known-requires c κs = search rules
+is_known-requires : tie.Need-is_known-requires
+is_known-requires c κs = search rules
 
-check-requires-2 : tie.Need-check-requires-2
-check-requires-2 c κs = search rules
+check-known-requires : tie.Need-check-known-requires
+check-known-requires c κs = search rules
 
 -- the tree is sound where the first test has accepted
-sound : (c : tie.After-enum-told) (t : Tree) → sound_tree (tree c.before.before.before.before t) ≡ true
+sound : (c : tie.In-Accepted) (t : Tree) → sound_tree (tree c.before.before.before t) ≡ true
 sound c t =
-    let h = c.before.before in
-    (checked_accepted is.Accepted (sound_tree (tree h.before.before t)) no.Unsound (sym (told h t) ∙ c.enum_told.given.1)).1
+    let h = c.before in
+    (checked_accepted is.Accepted (sound_tree (tree h.before.before t)) no.Unsound (sym (told h t) ∙ c.in-Accepted.is)).1
 
-needs-requires : tie.Need-needs-requires
-needs-requires c κs =
+needs-need-requires : tie.Need-needs-need-requires
+needs-need-requires c κs =
     let e = c.before.before in
-    let s = e.before.before.before.before in
+    let s = e.before.before.before in
     let p = sound_places (tree s fresh_tree) (sizes s fresh_tree) (sound e fresh_tree) in
     let u = sound_used (tree s fresh_tree) (sizes s fresh_tree) (sound e fresh_tree) in
     (p.0, p.1, p.2, u.0, u.1)
 
-check-requires-3 : tie.Need-check-requires-3
-check-requires-3 c κs = search rules
+check-requires : tie.Need-check-requires
+check-requires c κs = search rules
 
-returns-2 : tie.Need-returns-2
+returns : tie.Need-returns
 unfolding needs_commit
-returns-2 c =
+returns c =
     λ t.
-    let h = c.before.before.before.before.before.before in
-    rw (c.check3.ensures, c.before.needs.ensures, c.before.before.check2.ensures, c.before.before.before.is_Known.ensures, ← told h t)
+    let h = c.before.before.before.before.before in
+    rw (c.check.ensures, c.needs-need.ensures, c.check-known.ensures, c.is_Known.ensures, ← told h t)
 
-pub asked-verdict-spec : {M : Type 1} → statement M
-asked-verdict-spec =
+pub asked_verdict_spec : {M : Type 1} → statement M
+asked_verdict_spec =
     tie.close
     (tie.spec
-    sound-tables-requires
+    sound_tables-sound-requires
+    check-held-requires
+    enum_told-1
+    enum_told-in_default
+    returns-in_default
+    is_known-requires
+    check-known-requires
+    needs-need-requires
     check-requires
-    enum_told
-    enum-told-2
-    returns
-    is-known-requires
-    check-requires-2
-    needs-requires
-    check-requires-3
-    returns-2)
+    returns)

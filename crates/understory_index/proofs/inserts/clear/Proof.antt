@@ -5,23 +5,23 @@ use Rattle.index_state.specs.Calls.{clear, accepted, given}
 use Rattle.understory_index.proofs.inserts.clear.Statement.{statement}
 use Rattle.understory_index.proofs.inserts.clear.Tie as tie
 
-is-sound-requires : tie.Need-is-sound-requires
-is-sound-requires c κs = search rules
+is_sound-requires : tie.Need-is_sound-requires
+is_sound-requires c κs = search rules
+
+returns-then-not-is_sound : tie.Need-returns-then-not-is_sound
+returns-then-not-is_sound c =
+    let ix = c.args.t1 in
+    refuses ix clear 0 (unsound ix (rw (← c.is_sound.ensures) c.if-not-is_sound.true) clear)
+
+fresh-empty-requires : tie.Need-fresh-empty-requires
+fresh-empty-requires c κs = search rules
 
 returns : tie.Need-returns
-returns c =
-    let ix = c.before.before.before.before.before.before.args.t1 in
-    refuses ix clear 0 (unsound ix (rw (← c.before.is-sound.ensures) c.if1.true) clear)
-
-fresh-requires : tie.Need-fresh-requires
-fresh-requires c κs = search rules
-
-returns-2 : tie.Need-returns-2
 unfolding accepted given
-returns-2 c =
-    let ix = c.before.before.before.before.before.before.before.args.t1 in
-    let A = accepts ix clear (clear_any ix (rw (← c.before.before.is-sound.ensures) c.before.if1.false)) in
-    (A.0, c.fresh.ensures ∙ A.1)
+returns c =
+    let ix = c.args.t1 in
+    let A = accepts ix clear (clear_any ix (rw (← c.is_sound.ensures) c.if-not-is_sound.false)) in
+    (A.0, c.fresh-empty.ensures ∙ A.1)
 
 pub clear_spec : {M : Type 1} → statement M
-clear_spec = tie.close (tie.spec is-sound-requires returns fresh-requires returns-2)
+clear_spec = tie.close (tie.spec is_sound-requires returns-then-not-is_sound fresh-empty-requires returns)

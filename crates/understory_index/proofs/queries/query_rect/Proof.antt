@@ -9,42 +9,42 @@ use Rattle.index_state.specs.Calls.{query_rect, refusal}
 use Rattle.understory_index.proofs.queries.query_rect.Statement.{statement}
 use Rattle.understory_index.proofs.queries.query_rect.Tie as tie
 
-is-sound-requires : tie.Need-is-sound-requires
-is-sound-requires c κs = search rules
+is_sound-requires : tie.Need-is_sound-requires
+is_sound-requires c κs = search rules
 
-returns : tie.Need-returns
+returns-then-not-is_sound : tie.Need-returns-then-not-is_sound
 unfolding refusal
-returns c =
-    let A = c.before.before.before.before.before.before.before.args in
+returns-then-not-is_sound c =
+    let A = c.args in
     let call = query_rect A.rect (length A.room.now) in
-    let e = unsound A.t1 (rw (← c.before.is-sound.ensures) c.if1.true) call in
+    let e = unsound A.t1 (rw (← c.is_sound.ensures) c.if-not-is_sound.true) call in
     ((refuses A.t1 call 0 e).0, room_stays A.t1 (rect_slots A.t1 A.rect) A.room.now 0 e)
 
-returns-2 : tie.Need-returns-2
+returns-then-room-lt2048 : tie.Need-returns-then-room-lt2048
 unfolding refusal
-returns-2 c =
-    let A = c.before.before.before.before.before.before.before.before.args in
-    let S : not (sound_index A.t1) ≡ false = rw (← c.before.before.is-sound.ensures) c.before.if1.false in
-    let e = query_short A.t1 S (length A.room.now) (lt-ltb (length A.room.now) 2048 c.if2.true) in
+returns-then-room-lt2048 c =
+    let A = c.args in
+    let S : not (sound_index A.t1) ≡ false = rw (← c.is_sound.ensures) c.if-not-is_sound.false in
+    let e = query_short A.t1 S (length A.room.now) (lt-ltb (length A.room.now) 2048 c.if-room-lt2048.true) in
     ((refuses A.t1 (query_rect A.rect (length A.room.now)) 7 e).0, room_stays A.t1 (rect_slots A.t1 A.rect) A.room.now 7 e)
 
-visit-rect-requires : tie.Need-visit-rect-requires
-visit-rect-requires c κs = search rules
+visit_rect-requires : tie.Need-visit_rect-requires
+visit_rect-requires c κs = search rules
 
-same_length : tie.Need-same-length
-same_length c = search rules
+shape_of-room : tie.Need-shape_of-room
+shape_of-room c = search rules
 
-returns-3 : tie.Need-returns-3
+returns : tie.Need-returns
 unfolding rect_slots
-returns-3 c =
+returns c =
     let L = c.before.before.before.before.before.before.before.before.before.before in
-    let A = L.before.before.before.before.before.before.before.before.args in
-    let S : not (sound_index A.t1) ≡ false = rw (← L.before.before.is-sound.ensures) L.before.if1.false in
+    let A = L.args in
+    let S : not (sound_index A.t1) ≡ false = rw (← L.is_sound.ensures) L.if-not-is_sound.false in
     let e = query_long A.t1 S (length A.room.now) (le-ltb (length A.room.now) 2048 L.if2.false) in
-    let T = c.before.before.visit-rect.ensures in
+    let T = c.visit_rect.ensures in
     query_done A.t1 A.rect A.room.now _ _ e T.0 T.1
 
-pub query-rect-spec : {M : Type 1} → statement M
-query-rect-spec =
+pub query_rect_spec : {M : Type 1} → statement M
+query_rect_spec =
     tie.close
-    (tie.spec is-sound-requires returns returns-2 visit-rect-requires same_length returns-3)
+    (tie.spec is_sound-requires returns-then-not-is_sound returns-then-room-lt2048 visit_rect-requires shape_of-room returns)

@@ -18,53 +18,53 @@ lens : (c : tie.Start) → (length c.args.ix.mark ≡ 512) × (length c.args.ix.
 lens c = (search rules, search rules, search rules)
 
 -- what the passed test of soundness tells
-count-here : (c : tie.Else1) → let ix = c.before.before.before.before.before.before.before.before.before.before.before.before.before.before.args.ix in CountOf ix.mark ix.free ix.frees ix.dirty ix.queued ix.used
-count-here c =
+count_here : (c : tie.Else-not-is_sound) → let ix = c.args.ix in CountOf ix.mark ix.free ix.frees ix.dirty ix.queued ix.used
+count_here c =
     let S = c.before.before.before.before.before.before.before.before.before.before.before.before.before.before in
     let ix = S.args.ix in
     (count_tells ix.mark ix.free ix.frees ix.dirty ix.queued ix.used (lens S).0 (lens S).1 (lens S).2).0
-    (sym c.before.is-sound.ensures ∙ not-false c.before.is-sound.result c.if1.false)
+    (sym c.is_sound.ensures ∙ c.if-not-is_sound.false)
 
-is-sound-requires : tie.Need-is-sound-requires
-is-sound-requires c κs = search rules
+is_sound-requires : tie.Need-is_sound-requires
+is_sound-requires c κs = search rules
 
-returns : tie.Need-returns
-returns c =
-    let A = c.before.before.before.before.before.before.before.before.before.before.before.before.before.before.args in
-    refuses A.ix (remove A.key) 0 (unsound A.ix (rw (← c.before.is-sound.ensures) c.if1.true) (remove A.key))
+returns-then-not-is_sound : tie.Need-returns-then-not-is_sound
+returns-then-not-is_sound c =
+    let A = c.args in
+    refuses A.ix (remove A.key) 0 (unsound A.ix (rw (← c.is_sound.ensures) c.if-not-is_sound.true) (remove A.key))
 
-look-up-requires : tie.Need-look-up-requires
-look-up-requires c κs = search rules
+look_up-found-requires : tie.Need-look_up-found-requires
+look_up-found-requires c κs = search rules
 
-enum-known-found : tie.Need-enum-known-found
-enum-known-found c = search rules
+enum_known-found : tie.Need-enum_known-found
+enum_known-found c = search rules
 
-enum_told : tie.Need-enum-told
-enum_told c = search rules
+enum_told-1 : tie.Need-enum_told-1
+enum_told-1 c = search rules
 
-returns-2 : tie.Need-returns-2
-returns-2 c =
-    let A = c.before.before.before.before.before.before.before.before.before.before.before.before.before.before.before.before.before.before.before.before.before.before.before.args in
+returns-in_default : tie.Need-returns-in_default
+returns-in_default c =
+    let A = c.args in
     let ix = A.ix in
-    let S : not (sound_index A.ix) ≡ false = rw (← c.before.before.before.before.before.before.before.before.before.before.is-sound.ensures) c.before.before.before.before.before.before.before.before.before.if1.false in
-    let D = look_dead ix.generation ix.mark ix.payload ix.aabb ix.kept ix.prev A.key (sym c.before.before.look_up.ensures ∙ c.enum_told.given.1) in
+    let S : not (sound_index A.ix) ≡ false = rw (← c.is_sound.ensures) c.if-not-is_sound.false in
+    let D = look_dead ix.generation ix.mark ix.payload ix.aabb ix.kept ix.prev A.key (sym c.look_up-found.ensures ∙ c.in_default.is) in
     refuses ix (remove A.key) 9 (remove_dead ix S A.key D)
 
-remove-entry-requires : tie.Need-remove-entry-requires
-remove-entry-requires c κs = let S = c.before.before.before.before.before.before.before.before.before.before.before.before.before.before.before.before.before.before.before.before.before.before.before.before.before.before.before in let ix = S.args.ix in let C = count-here c.before.before.before.before.before.before.before.before.before.before.before.before.before in let L = look_live ix.generation ix.mark ix.payload ix.aabb ix.kept ix.prev S.args.key _ (sym c.before.before.before.before.before.before.look_up.ensures ∙ c.before.before.before.before.found.given.1) in let l = live_slot ix.generation ix.mark S.args.key L.0 in (l.0, C.queue_fits, (lens S).2, queue_room ix.dirty ix.queued (queue_of ix.mark ix.free ix.frees ix.dirty ix.queued ix.used C (lens S).0) (lens S).2 S.args.key.0 l.0, λ a. free_room ix.mark ix.free ix.frees ix.dirty ix.queued ix.used C (lens S).0 S.args.key.0 l.1 l.0 (lens S).1)
+remove_entry-lengths-requires : tie.Need-remove_entry-lengths-requires
+remove_entry-lengths-requires c κs = let S = c.before.before.before.before.before.before.before.before.before.before.before.before.before.before.before.before.before.before.before.before.before.before.before.before.before in let ix = S.args.ix in let C = count_here c.before.before.before.before.before.before.before.before.before.before.before in let L = look_live ix.generation ix.mark ix.payload ix.aabb ix.kept ix.prev S.args.key _ (sym c.look_up-found.ensures ∙ c.in-Live.is) in let l = live_slot ix.generation ix.mark S.args.key L.0 in (l.0, C.queue_fits, (lens S).2, queue_room ix.dirty ix.queued (queue_of ix.mark ix.free ix.frees ix.dirty ix.queued ix.used C (lens S).0) (lens S).2 S.args.key.0 l.0, λ a. free_room ix.mark ix.free ix.frees ix.dirty ix.queued ix.used C (lens S).0 S.args.key.0 l.1 l.0 (lens S).1)
 
-returns-3 : tie.Need-returns-3
-returns-3 c = let S = c.before.before.before.before.before.before.before.before.before.before.before.before.before.before.before.before.before.before.before.before.before.before.before.before.before.before.before.before in let ix = S.args.ix in let L = look_live ix.generation ix.mark ix.payload ix.aabb ix.kept ix.prev S.args.key _ (sym c.before.before.before.before.before.before.before.look_up.ensures ∙ c.before.before.before.before.before.found.given.1) in let T = c.remove_entry.ensures in remove_done ix S.args.key (rw (← c.before.before.before.before.before.before.before.before.before.before.before.before.before.before.before.is-sound.ensures) c.before.before.before.before.before.before.before.before.before.before.before.before.before.before.if1.false) L.0 _ _ _ _ _ _ L.1 T.0 T.1.0 T.1.1.1.0 T.1.1.0 T.1.1.1.1
+returns : tie.Need-returns
+returns c = let S = c.before.before.before.before.before.before.before.before.before.before.before.before.before.before.before.before.before.before.before.before.before.before.before.before.before.before in let ix = S.args.ix in let L = look_live ix.generation ix.mark ix.payload ix.aabb ix.kept ix.prev S.args.key _ (sym c.look_up-found.ensures ∙ c.in-Live.is) in let T = c.remove_entry-lengths.ensures in remove_done ix S.args.key (rw (← c.is_sound.ensures) c.if-not-is_sound.false) L.0 _ _ _ _ _ _ L.1 T.0 T.1.0 T.1.1.1.0 T.1.1.0 T.1.1.1.1
 
-pub remove-spec : {M : Type 1} → statement M
-remove-spec =
+pub remove_spec : {M : Type 1} → statement M
+remove_spec =
     tie.close
     (tie.spec
-    is-sound-requires
-    returns
-    look-up-requires
-    enum-known-found
-    enum_told
-    returns-2
-    remove-entry-requires
-    returns-3)
+    is_sound-requires
+    returns-then-not-is_sound
+    look_up-found-requires
+    enum_known-found
+    enum_told-1
+    returns-in_default
+    remove_entry-lengths-requires
+    returns)

@@ -7,5 +7,5 @@ returns : tie.Need-returns
 unfolding of_bits of_fields odd
 returns c = refl
 
-pub identity-spec : {M : Type 1} → statement M
-identity-spec = tie.close (tie.spec returns)
+pub identity_spec : {M : Type 1} → statement M
+identity_spec = tie.close (tie.spec returns)

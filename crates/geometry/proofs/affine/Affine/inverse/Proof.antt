@@ -8,5 +8,5 @@ returns : tie.Need-returns
 unfolding inverse of_bits of_fields odd
 returns c = refl
 
-pub inverse-spec : {M : Type 1} → statement M
-inverse-spec = tie.close (tie.spec returns)
+pub inverse_spec : {M : Type 1} → statement M
+inverse_spec = tie.close (tie.spec returns)

@@ -5,10 +5,10 @@ use Rattle.geometry.proofs.affine.Affine.is_finite.Tie as tie
 
 returns : tie.Need-returns
 unfolding finite_affine
-returns c = rw (c.is-finite6.ensures, c.before.is-finite5.ensures, c.before.before.is-finite4.ensures, c.before.before.before.is-finite3.ensures, c.before.before.before.before.is-finite2.ensures, c.before.before.before.before.before.is_finite.ensures)
+returns c = rw (c.is_finite-6.ensures, c.is_finite-5.ensures, c.is_finite-4.ensures, c.is_finite-3.ensures, c.is_finite-2.ensures, c.is_finite.ensures)
 
-pub is-finite-spec : {M : Type 1} → statement M
-is-finite-spec =
+pub is_finite_spec : {M : Type 1} → statement M
+is_finite_spec =
     tie.close
     (tie.spec
     (λ c κs. search rules) (λ c κs. search rules) (λ c κs. search rules) (λ c κs. search rules) (λ c κs. search rules)

@@ -7,5 +7,5 @@ returns : tie.Need-returns
 unfolding mapped
 returns c = refl
 
-pub map-point-spec : {M : Type 1} → statement M
-map-point-spec = tie.close (tie.spec returns)
+pub map_point_spec : {M : Type 1} → statement M
+map_point_spec = tie.close (tie.spec returns)

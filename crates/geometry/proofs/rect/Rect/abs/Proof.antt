@@ -5,7 +5,7 @@ use Rattle.geometry.proofs.rect.Rect.abs.Tie as tie
 
 returns : tie.Need-returns
 unfolding ordered
-returns c = rw (c.max2.ensures, c.before.max.ensures, c.before.before.min2.ensures, c.before.before.before.min.ensures)
+returns c = rw (c.max-2.ensures, c.max.ensures, c.min-2.ensures, c.min.ensures)
 
-pub abs-spec : {M : Type 1} → statement M
-abs-spec = tie.close (tie.spec (λ c κs. search rules) (λ c κs. search rules) (λ c κs. search rules) (λ c κs. search rules) returns)
+pub abs_spec : {M : Type 1} → statement M
+abs_spec = tie.close (tie.spec (λ c κs. search rules) (λ c κs. search rules) (λ c κs. search rules) (λ c κs. search rules) returns)

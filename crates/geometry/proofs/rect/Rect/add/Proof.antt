@@ -3,12 +3,12 @@ use Rattle.geometry.specs.Rectangle.{plus_insets}
 use Rattle.geometry.proofs.rect.Rect.add.Statement.{statement}
 use Rattle.geometry.proofs.rect.Rect.add.Tie as tie
 
-abs-requires : tie.Need-abs-requires
-abs-requires c κs = search rules
+abs-r-requires : tie.Need-abs-r-requires
+abs-r-requires c κs = search rules
 
 returns : tie.Need-returns
 unfolding plus_insets
-returns c = rw c.before.before.before.before.before.before.before.before.abs.ensures
+returns c = rw c.abs-r.ensures
 
 pub add_spec : {M : Type 1} → statement M
-add_spec = tie.close (tie.spec abs-requires returns)
+add_spec = tie.close (tie.spec abs-r-requires returns)

@@ -12,7 +12,7 @@ height-requires c κs = search rules
 
 returns : tie.Need-returns
 unfolding has_area of_bits of_fields odd
-returns c = rw (c.height.ensures, c.before.width.ensures)
+returns c = rw (c.height.ensures, c.width.ensures)
 
-pub has-area-spec : {M : Type 1} → statement M
-has-area-spec = tie.close (tie.spec width-requires height-requires returns)
+pub has_area_spec : {M : Type 1} → statement M
+has_area_spec = tie.close (tie.spec width-requires height-requires returns)

@@ -5,7 +5,7 @@ use Rattle.geometry.proofs.rect.Rect.union.Tie as tie
 
 returns : tie.Need-returns
 unfolding union
-returns c = rw (c.max2.ensures, c.before.max.ensures, c.before.before.min2.ensures, c.before.before.before.min.ensures)
+returns c = rw (c.max-2.ensures, c.max.ensures, c.min-2.ensures, c.min.ensures)
 
-pub union-spec : {M : Type 1} → statement M
-union-spec = tie.close (tie.spec (λ c κs. search rules) (λ c κs. search rules) (λ c κs. search rules) (λ c κs. search rules) returns)
+pub union_spec : {M : Type 1} → statement M
+union_spec = tie.close (tie.spec (λ c κs. search rules) (λ c κs. search rules) (λ c κs. search rules) (λ c κs. search rules) returns)

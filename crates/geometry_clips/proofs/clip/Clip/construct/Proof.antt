@@ -6,18 +6,18 @@ use Rattle.geometry_clips.proofs.clip.Clip.construct.Tie as tie
 rect-requires : tie.Need-rect-requires
 rect-requires c κs = search rules
 
-enum-known-given : tie.Need-enum-known-given
-enum-known-given c = search rules
+enum_known-given : tie.Need-enum_known-given
+enum_known-given c = search rules
 
-enum_told : tie.Need-enum-told
-enum_told c = search rules
+enum_told-1 : tie.Need-enum_told-1
+enum_told-1 c = search rules
 
-returns : tie.Need-returns
+returns-in_default : tie.Need-returns-in_default
 unfolding constructed
-returns c = rw (constructed, ← c.before.before.rect.ensures, c.enum_told.given.1)
+returns-in_default c = rw (constructed, ← c.rect.ensures, c.in_default.is)
 
-abs-requires : tie.Need-abs-requires
-abs-requires c κs = search rules
+abs-r-requires : tie.Need-abs-r-requires
+abs-r-requires c κs = search rules
 
 radii-requires : tie.Need-radii-requires
 radii-requires c κs = search rules
@@ -28,20 +28,20 @@ fit-requires c κs = search rules
 shape-requires : tie.Need-shape-requires
 shape-requires c κs = search rules
 
-returns-2 : tie.Need-returns-2
+returns : tie.Need-returns
 unfolding constructed
-returns-2 c = rw (constructed, ← c.before.before.before.before.before.before.before.rect.ensures, c.before.before.before.before.before.given.given.1, c.shape.ensures, c.before.fit.ensures, c.before.before.radii.ensures, c.before.before.before.abs.ensures)
+returns c = rw (constructed, ← c.rect.ensures, c.in-Some.is, c.shape.ensures, c.fit.ensures, c.radii.ensures, c.abs-r.ensures)
 
-pub construct-spec : {M : Type 1} → statement M
-construct-spec =
+pub construct_spec : {M : Type 1} → statement M
+construct_spec =
     tie.close
     (tie.spec
     rect-requires
-    enum-known-given
-    enum_told
-    returns
-    abs-requires
+    enum_known-given
+    enum_told-1
+    returns-in_default
+    abs-r-requires
     radii-requires
     fit-requires
     shape-requires
-    returns-2)
+    returns)

@@ -6,15 +6,15 @@ use Rattle.geometry_clips.proofs.clip.Clip.contains.Tie as tie
 rect-requires : tie.Need-rect-requires
 rect-requires c κs = search rules
 
-enum-known-r : tie.Need-enum-known-r
-enum-known-r c = search rules
+enum_known-r : tie.Need-enum_known-r
+enum_known-r c = search rules
 
-enum_told : tie.Need-enum-told
-enum_told c = search rules
+enum_told-1 : tie.Need-enum_told-1
+enum_told-1 c = search rules
 
-returns : tie.Need-returns
+returns-in_default : tie.Need-returns-in_default
 unfolding inside
-returns c = rw (inside, ← c.before.before.rect.ensures, c.enum_told.given.1)
+returns-in_default c = rw (inside, ← c.rect.ensures, c.in_default.is)
 
 radii-requires : tie.Need-radii-requires
 radii-requires c κs = search rules
@@ -22,18 +22,18 @@ radii-requires c κs = search rules
 winding-requires : tie.Need-winding-requires
 winding-requires c κs = search rules
 
-returns-2 : tie.Need-returns-2
+returns : tie.Need-returns
 unfolding inside
-returns-2 c = rw (inside, ← c.before.before.before.before.before.rect.ensures, c.before.before.before.r.given.1, c.winding.ensures, c.before.radii.ensures)
+returns c = rw (inside, ← c.rect.ensures, c.in-Some.is, c.winding.ensures, c.radii.ensures)
 
-pub contains-spec : {M : Type 1} → statement M
-contains-spec =
+pub contains_spec : {M : Type 1} → statement M
+contains_spec =
     tie.close
     (tie.spec
     rect-requires
-    enum-known-r
-    enum_told
-    returns
+    enum_known-r
+    enum_told-1
+    returns-in_default
     radii-requires
     winding-requires
-    returns-2)
+    returns)

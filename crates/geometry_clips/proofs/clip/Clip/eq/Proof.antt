@@ -23,7 +23,7 @@ eq-requires-2 c κs = search rules
 
 returns : tie.Need-returns
 unfolding clip_eq
-returns c = rw (c.eq2.ensures, c.before.radii2.ensures, c.before.before.radii.ensures, c.before.before.before.eq.ensures, c.before.before.before.before.rect2.ensures, c.before.before.before.before.before.rect.ensures)
+returns c = rw (c.eq-2.ensures, c.radii-2.ensures, c.radii.ensures, c.eq.ensures, c.rect-2.ensures, c.rect.ensures)
 
 pub eq_spec : {M : Type 1} → statement M
 eq_spec =

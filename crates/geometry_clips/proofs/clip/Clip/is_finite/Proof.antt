@@ -6,20 +6,20 @@ use Rattle.geometry_clips.proofs.clip.Clip.is_finite.Tie as tie
 rect-requires : tie.Need-rect-requires
 rect-requires c κs = search rules
 
-is-finite-requires : tie.Need-is-finite-requires
-is-finite-requires c κs = search rules
+is_finite-requires : tie.Need-is_finite-requires
+is_finite-requires c κs = search rules
 
 radii-requires : tie.Need-radii-requires
 radii-requires c κs = search rules
 
-is-finite-requires-2 : tie.Need-is-finite-requires-2
-is-finite-requires-2 c κs = search rules
+is_finite-requires-2 : tie.Need-is_finite-requires-2
+is_finite-requires-2 c κs = search rules
 
 returns : tie.Need-returns
 unfolding finite_clip
-returns c = rw (c.is-finite2.ensures, c.before.radii.ensures, c.before.before.is_finite.ensures, c.before.before.before.rect.ensures)
+returns c = rw (c.is_finite-2.ensures, c.radii.ensures, c.is_finite.ensures, c.rect.ensures)
 
-pub is-finite-spec : {M : Type 1} → statement M
-is-finite-spec =
+pub is_finite_spec : {M : Type 1} → statement M
+is_finite_spec =
     tie.close
-    (tie.spec rect-requires is-finite-requires radii-requires is-finite-requires-2 returns)
+    (tie.spec rect-requires is_finite-requires radii-requires is_finite-requires-2 returns)

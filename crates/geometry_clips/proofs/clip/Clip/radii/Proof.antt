@@ -4,42 +4,42 @@ use Rattle.geometry_clips.specs.Clips.{clip_radii}
 use Rattle.geometry_clips.proofs.clip.Clip.radii.Statement.{statement}
 use Rattle.geometry_clips.proofs.clip.Clip.radii.Tie as tie
 
-enum-known-self : tie.Need-enum-known-self
-enum-known-self c = search rules
+enum_known-self : tie.Need-enum_known-self
+enum_known-self c = search rules
 
-enum_told : tie.Need-enum-told
-enum_told c = search rules
+enum_told-1 : tie.Need-enum_told-1
+enum_told-1 c = search rules
 
 new-requires : tie.Need-new-requires
 new-requires c κs = search rules
 
-enum-told-2 : tie.Need-enum-told-2
-enum-told-2 c = search rules
+enum_told-in-None : tie.Need-enum_told-in-None
+enum_told-in-None c = search rules
 
-new-requires-2 : tie.Need-new-requires-2
-new-requires-2 c κs = search rules
+new-requires-in-None : tie.Need-new-requires-in-None
+new-requires-in-None c κs = search rules
 
-returns : tie.Need-returns
+returns-in-Rounded : tie.Need-returns-in-Rounded
 unfolding clip_radii of_bits of_fields odd
-returns c = rw c.before.self.given.1
+returns-in-Rounded c = rw c.in-Rounded.is
 
-returns-2 : tie.Need-returns-2
+returns-in-Square : tie.Need-returns-in-Square
 unfolding clip_radii of_bits of_fields odd
-returns-2 c = rw (c.before.enum_told.given.1, c.new.ensures)
+returns-in-Square c = rw (c.in-Square.is, c.new.ensures)
 
-returns-3 : tie.Need-returns-3
+returns-in-None : tie.Need-returns-in-None
 unfolding clip_radii of_bits of_fields odd
-returns-3 c = rw (c.before.enum-told2.given.1, c.new2.ensures)
+returns-in-None c = rw (c.in-None.is, c.new-in-None.ensures)
 
-pub radii-spec : {M : Type 1} → statement M
-radii-spec =
+pub radii_spec : {M : Type 1} → statement M
+radii_spec =
     tie.close
     (tie.spec
-    enum-known-self
-    enum_told
+    enum_known-self
+    enum_told-1
     new-requires
-    enum-told-2
-    new-requires-2
-    returns
-    returns-2
-    returns-3)
+    enum_told-in-None
+    new-requires-in-None
+    returns-in-Rounded
+    returns-in-Square
+    returns-in-None)

@@ -3,27 +3,27 @@ use Rattle.geometry_clips.specs.Clips.{clip_rect}
 use Rattle.geometry_clips.proofs.clip.Clip.rect.Statement.{statement}
 use Rattle.geometry_clips.proofs.clip.Clip.rect.Tie as tie
 
-enum_told : tie.Need-enum-told
-enum_told c = search rules
+enum_told-1 : tie.Need-enum_told-1
+enum_told-1 c = search rules
 
-enum-known-self : tie.Need-enum-known-self
-enum-known-self c = search rules
+enum_known-self : tie.Need-enum_known-self
+enum_known-self c = search rules
 
-enum-known-self-2 : tie.Need-enum-known-self-2
-enum-known-self-2 c = search rules
+enum_known-self-in-Rounded-1 : tie.Need-enum_known-self-in-Rounded-1
+enum_known-self-in-Rounded-1 c = search rules
 
-returns : tie.Need-returns
+returns-in-None : tie.Need-returns-in-None
 unfolding clip_rect
-returns c = search rules
+returns-in-None c = search rules
 
-returns-2 : tie.Need-returns-2
+returns-in-Square : tie.Need-returns-in-Square
 unfolding clip_rect
-returns-2 c = rw c.before.self.given.1
+returns-in-Square c = rw c.in-Square.is
 
-returns-3 : tie.Need-returns-3
+returns-in-Rounded : tie.Need-returns-in-Rounded
 unfolding clip_rect
-returns-3 c = rw c.before.self2.given.1
+returns-in-Rounded c = rw c.in-Rounded.is
 
-pub rect-spec : {M : Type 1} → statement M
-rect-spec =
-    tie.close (tie.spec enum_told enum-known-self enum-known-self-2 returns returns-2 returns-3)
+pub rect_spec : {M : Type 1} → statement M
+rect_spec =
+    tie.close (tie.spec enum_told-1 enum_known-self enum_known-self-in-Rounded-1 returns-in-None returns-in-Square returns-in-Rounded)

@@ -3,55 +3,55 @@ use Rattle.geometry_clips.specs.clip_rect.Rects.{clip_rect_eq}
 use Rattle.geometry_clips.proofs.clip_rect.ClipRect.eq.Statement.{statement}
 use Rattle.geometry_clips.proofs.clip_rect.ClipRect.eq.Tie as tie
 
-enum_told : tie.Need-enum-told
-enum_told c = search rules
+enum_told-1 : tie.Need-enum_told-1
+enum_told-1 c = search rules
 
-enum-told-2 : tie.Need-enum-told-2
-enum-told-2 c = search rules
+enum_told-in-None-other : tie.Need-enum_told-in-None-other
+enum_told-in-None-other c = search rules
 
-enum-told-3 : tie.Need-enum-told-3
-enum-told-3 c = search rules
+enum_told-in-Some-other : tie.Need-enum_told-in-Some-other
+enum_told-in-Some-other c = search rules
 
-enum-known-self : tie.Need-enum-known-self
-enum-known-self c = search rules
+enum_known-self : tie.Need-enum_known-self
+enum_known-self c = search rules
 
-enum-told-4 : tie.Need-enum-told-4
-enum-told-4 c = search rules
+enum_told-in-None-other-2 : tie.Need-enum_told-in-None-other-2
+enum_told-in-None-other-2 c = search rules
 
-enum-known-other : tie.Need-enum-known-other
-enum-known-other c = search rules
+enum_known-other : tie.Need-enum_known-other
+enum_known-other c = search rules
 
 eq-requires : tie.Need-eq-requires
 eq-requires c κs = search rules
 
-returns : tie.Need-returns
+returns-in-None-other : tie.Need-returns-in-None-other
 unfolding clip_rect_eq
-returns c = rw (c.before.before.enum_told.given.1, c.enum-told2.given.1)
+returns-in-None-other c = rw (c.in-None.is, c.in-None-other.is)
 
-returns-2 : tie.Need-returns-2
+returns-in-Some-other : tie.Need-returns-in-Some-other
 unfolding clip_rect_eq
-returns-2 c = rw (c.before.before.enum_told.given.1, c.enum-told3.given.1)
+returns-in-Some-other c = rw (c.in-None.is, c.in-Some-other.is)
 
-returns-3 : tie.Need-returns-3
+returns-in-None-other-2 : tie.Need-returns-in-None-other-2
 unfolding clip_rect_eq
-returns-3 c = rw (c.before.before.before.self.given.1, c.enum-told4.given.1)
+returns-in-None-other-2 c = rw (c.in-Some.is, c.in-None-other-2.is)
 
-returns-4 : tie.Need-returns-4
+returns-in-Some-other-2 : tie.Need-returns-in-Some-other-2
 unfolding clip_rect_eq
-returns-4 c = rw (c.before.before.before.before.before.self.given.1, c.before.before.other.given.1, c.eq.ensures)
+returns-in-Some-other-2 c = rw (c.in-Some.is, c.in-Some-other-2.is, c.eq.ensures)
 
 pub eq_spec : {M : Type 1} → statement M
 eq_spec =
     tie.close
     (tie.spec
-    enum_told
-    enum-told-2
-    enum-told-3
-    enum-known-self
-    enum-told-4
-    enum-known-other
+    enum_told-1
+    enum_told-in-None-other
+    enum_told-in-Some-other
+    enum_known-self
+    enum_told-in-None-other-2
+    enum_known-other
     eq-requires
-    returns
-    returns-2
-    returns-3
-    returns-4)
+    returns-in-None-other
+    returns-in-Some-other
+    returns-in-None-other-2
+    returns-in-Some-other-2)

@@ -3,23 +3,23 @@ use Rattle.geometry_clips.specs.clip_rect.Rects.{finite_clip_rect}
 use Rattle.geometry_clips.proofs.clip_rect.ClipRect.is_finite.Statement.{statement}
 use Rattle.geometry_clips.proofs.clip_rect.ClipRect.is_finite.Tie as tie
 
-enum_told : tie.Need-enum-told
-enum_told c = search rules
+enum_told-1 : tie.Need-enum_told-1
+enum_told-1 c = search rules
 
-enum-known-self : tie.Need-enum-known-self
-enum-known-self c = search rules
+enum_known-self : tie.Need-enum_known-self
+enum_known-self c = search rules
 
-is-finite-requires : tie.Need-is-finite-requires
-is-finite-requires c κs = search rules
+is_finite-requires : tie.Need-is_finite-requires
+is_finite-requires c κs = search rules
 
-returns : tie.Need-returns
+returns-in-None : tie.Need-returns-in-None
 unfolding finite_clip_rect
-returns c = rw c.enum_told.given.1
+returns-in-None c = rw c.in-None.is
 
-returns-2 : tie.Need-returns-2
+returns-in-Some : tie.Need-returns-in-Some
 unfolding finite_clip_rect
-returns-2 c = rw (c.before.before.self.given.1, c.is_finite.ensures)
+returns-in-Some c = rw (c.in-Some.is, c.is_finite.ensures)
 
-pub is-finite-spec : {M : Type 1} → statement M
-is-finite-spec =
-    tie.close (tie.spec enum_told enum-known-self is-finite-requires returns returns-2)
+pub is_finite_spec : {M : Type 1} → statement M
+is_finite_spec =
+    tie.close (tie.spec enum_told-1 enum_known-self is_finite-requires returns-in-None returns-in-Some)

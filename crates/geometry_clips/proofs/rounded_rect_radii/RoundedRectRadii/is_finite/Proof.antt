@@ -3,7 +3,7 @@ use Rattle.geometry_clips.proofs.rounded_rect_radii.RoundedRectRadii.is_finite.S
 use Rattle.geometry_clips.proofs.rounded_rect_radii.RoundedRectRadii.is_finite.Tie as tie
 
 returns : tie.Need-returns
-returns c = rw (c.is-finite4.ensures, c.before.is-finite3.ensures, c.before.before.is-finite2.ensures, c.before.before.before.is_finite.ensures)
+returns c = rw (c.is_finite-4.ensures, c.is_finite-3.ensures, c.is_finite-2.ensures, c.is_finite.ensures)
 
-pub is-finite-spec : {M : Type 1} → statement M
-is-finite-spec = tie.close (tie.spec (λ c κs. search rules) (λ c κs. search rules) (λ c κs. search rules) (λ c κs. search rules) returns)
+pub is_finite_spec : {M : Type 1} → statement M
+is_finite_spec = tie.close (tie.spec (λ c κs. search rules) (λ c κs. search rules) (λ c κs. search rules) (λ c κs. search rules) returns)
