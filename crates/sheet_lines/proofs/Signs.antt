@@ -3,7 +3,7 @@ use mathlib.Core.Path.{◌≡◌}
 use Prim.Native.Nat.{ℕ, zero, suc, ◌^◌, ◌≤◌, ◌<◌}
 use native.Mathlib.Omega.{arith}
 use lib.Dec.{lit<}
-use lib.IntN.{pos, neg_ℤ, ◌-ℤ◌, +ℤ_idl}
+use lib.IntN.{pos, neg_ℤ}
 use mir.Syntax.{w64}
 use mir.Val.{SFits, to_z, of_z, hbits}
 use mir.ValLaws.{to_z_pos, to_z-of_z}
@@ -11,21 +11,12 @@ use mir.ValLaws.{to_z_pos, to_z-of_z}
 below : (n : ℕ) → n ≤ 1000000000000000 → n < 2 ^ hbits w64
 below n h = omega arith
 
-pub plus_read : (n : ℕ) → n ≤ 1000000000000000 → to_z w64 n ≡ pos n
-plus_read n h = to_z_pos w64 n (below n h)
+pub plus_back : (n : ℕ) → n ≤ 1000000000000000 → to_z w64 (of_z w64 (pos n)) ≡ pos n
+plus_back n h = to_z_pos w64 n (below n h)
 
 fits : (n : ℕ) → n ≤ 1000000000000000 → SFits w64 (neg_ℤ (pos n))
 fits zero h = record { sfits = lit< tt }
 fits (suc n) h = record { sfits = omega arith }
-
-minus : (n : ℕ) → n ≤ 1000000000000000 → pos 0 -ℤ to_z w64 n ≡ neg_ℤ (pos n)
-minus n h = rw (plus_read n h) (+ℤ_idl (neg_ℤ (pos n)))
-
-pub minus_fits : (n : ℕ) → n ≤ 1000000000000000 → SFits w64 (pos 0 -ℤ to_z w64 n)
-minus_fits n h = rw (minus n h) (fits n h)
-
-pub minus_read : (n : ℕ) → n ≤ 1000000000000000 → to_z w64 (of_z w64 (pos 0 -ℤ to_z w64 n)) ≡ neg_ℤ (pos n)
-minus_read n h = rw (minus n h) (to_z-of_z w64 (neg_ℤ (pos n)) (fits n h))
 
 pub minus_back : (n : ℕ) → n ≤ 1000000000000000 → to_z w64 (of_z w64 (neg_ℤ (pos n))) ≡ neg_ℤ (pos n)
 minus_back n h = to_z-of_z w64 (neg_ℤ (pos n)) (fits n h)

@@ -1,4 +1,6 @@
 // Lines of whole numbers, as the plan sheet has them.
+#![tactic(auto)]
+
 ghost use Rattle.std.specs.Prelude.{◌≡◌, false, ◌≤◌, min, pos, neg_ℤ, drop};
 ghost use Rattle.sheet_lines.specs.Lines as spec;
 ghost use Rattle.sheet_lines.specs.Saturated.{saturated_decimal, saturated_numbers, first_fields, told_digits, told_word, told_row, told_line};
