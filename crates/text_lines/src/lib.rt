@@ -1,5 +1,7 @@
 // What the programs that read and write lines share: the lines of standard input, the words of a line with what they stand for, and the parts of
 // an answer.
+#![tactic(auto)]
+
 pub mod spelling; // which name a word is, and the f64 whose bits it spells
 pub mod words; // a line's words: names and f64
 pub mod decimals; // a line's words: whole numbers

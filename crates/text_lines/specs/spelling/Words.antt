@@ -1,5 +1,5 @@
 -- Words of a line: names parted by spaces, and the 64 bits that 16 hexadecimal digits spell. A byte is its ASCII code.
-use Rattle.std.specs.Prelude.{◌≡◌, ℕ, suc, ◌+◌, ◌-◌, ◌*◌, cond, ◌&&◌, List, [], ◌∷◌, length, ◌==◌, ◌≢◌, nat_le, nat_lt}
+use Rattle.std.specs.Prelude.{ℕ, suc, ◌+◌, ◌-◌, ◌*◌, cond, ◌&&◌, List, [], ◌∷◌, length, ◌==◌, ◌≢◌, nat_le, nat_lt}
 use Rattle.text_lines.specs.declared.spelling.Word.{Word}
 use Rattle.text_lines.specs.declared.spelling.Word.TheVariants as is
 
