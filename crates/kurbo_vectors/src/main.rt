@@ -1,5 +1,7 @@
 // Runs vectors of kurbo's geometry, on standard input, through the crates of the geometry (numbers to clips), and writes which differ.
 // docs/VECTORS.md has the format. A line that is no vector is malformed, counts as one that differs, and stops nothing.
+#![tactic(auto)]
+
 mod line; // a line's words, and numbers against words
 mod affine_ops;
 mod clip_ops;
