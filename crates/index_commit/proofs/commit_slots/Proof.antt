@@ -44,7 +44,7 @@ bounds-dirty-i : tie.Need-bounds-dirty-i invariant-loop-i decreases-loop-i
 bounds-dirty-i c = omega (arith, c.loop-i.invariant.q_fits, c.loop-i-test.true)
 
 commit_slot-c-requires : tie.Need-commit_slot-c-requires invariant-loop-i decreases-loop-i
-commit_slot-c-requires c κs = let L = c.loop-i in let A = c.args in let h = c.loop-i-test.true in (x_low A.aabb.now A.prev.now A.dirty.now A.queued (start A.mark.now A.kept.now A.free.now A.frees A.present.now A.boxes.now) A.added.now A.removed.now A.old.now A.new.now L.mark L.auto L.free L.present L.boxes L.added L.removed L.old L.new L.f L.a L.r L.m L.i L.invariant h, x_room A.aabb.now A.prev.now A.dirty.now A.queued (start A.mark.now A.kept.now A.free.now A.frees A.present.now A.boxes.now) A.added.now A.removed.now A.old.now A.new.now L.mark L.auto L.free L.present L.boxes L.added L.removed L.old L.new L.f L.a L.r L.m L.i L.invariant h)
+commit_slot-c-requires c κs = let L = c.loop-i in let A = c.args in let h = c.loop-i-test.true in (x_low A.aabb.now A.prev.now A.dirty.now A.queued (start A.mark.now A.kept.now A.free.now A.frees A.present.now A.boxes.now) A.added.now A.removed.now A.old.now A.new.now L.mark L.kept L.free L.present L.boxes L.added L.removed L.old L.new L.f L.a L.r L.m L.i L.invariant h, x_room A.aabb.now A.prev.now A.dirty.now A.queued (start A.mark.now A.kept.now A.free.now A.frees A.present.now A.boxes.now) A.added.now A.removed.now A.old.now A.new.now L.mark L.kept L.free L.present L.boxes L.added L.removed L.old L.new L.f L.a L.r L.m L.i L.invariant h)
 
 push-a-requires : tie.Need-push-a-requires invariant-loop-i decreases-loop-i
 push-a-requires c κs = let L = c.loop-i in push_fits L.invariant.added_long L.invariant.a_few c.loop-i-test.true L.invariant.q_fits
@@ -72,7 +72,7 @@ loop-i-preserved c = let L = c.loop-i in
     let R = c.push-r.ensures in
     let O = c.push.ensures in
     let N = c.push-m.ensures in
-    next A.aabb.now A.prev.now A.dirty.now A.queued (start A.mark.now A.kept.now A.free.now A.frees A.present.now A.boxes.now) A.added.now A.removed.now A.old.now A.new.now L.mark L.auto L.free L.present L.boxes L.added L.removed L.old L.new L.f L.a L.r L.m L.i L.invariant c.loop-i-test.true c.commit_slot-c.result _ _ _ _ _ _ _ _ _ _ _ _ S.1.1.1.1.1 S.0 S.1.0 S.1.1.0 S.1.1.1.0 S.1.1.1.1.0 P.0 P.1 R.0 R.1 O.0 N.0 N.1
+    next A.aabb.now A.prev.now A.dirty.now A.queued (start A.mark.now A.kept.now A.free.now A.frees A.present.now A.boxes.now) A.added.now A.removed.now A.old.now A.new.now L.mark L.kept L.free L.present L.boxes L.added L.removed L.old L.new L.f L.a L.r L.m L.i L.invariant c.loop-i-test.true c.commit_slot-c.result _ _ _ _ _ _ _ _ _ _ _ _ S.1.1.1.1.1 S.0 S.1.0 S.1.1.0 S.1.1.1.0 S.1.1.1.1.0 P.0 P.1 R.0 R.1 O.0 N.0 N.1
 
 shape_of-added : tie.Need-shape_of-added invariant-loop-i decreases-loop-i
 shape_of-added c = c.loop-i.invariant.added_long.same

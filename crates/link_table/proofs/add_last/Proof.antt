@@ -18,8 +18,8 @@ insert_at-requires c κs = search rules
 
 overflow_add-d : tie.Need-overflow_add-d
 overflow_add-d c =
-    let Z = c in
-    omega (arith, depth_fits Z.args.t1.count Z.args.t1.depth Z.requires.2 Z.args.at Z.requires.0, Z.requires)
+    let Z = c.before.before.before.before.before.before in
+    omega (arith, depth_fits Z.args.l.count Z.args.l.depth Z.requires.2 Z.args.at Z.requires.0, Z.requires)
 
 insert_at-requires-2 : tie.Need-insert_at-requires-2
 insert_at-requires-2 c κs = search rules
@@ -31,7 +31,7 @@ returns : tie.Need-returns
 returns c =
     let A = c.args in
     let E = c.segment_end-e in
-    last_added A.t1 c.insert_at.new.0 c.insert_at-2.new.0 A.at A.x E.result E.ensures.2 c.insert_at.ensures.1
+    last_added A.l c.insert_at.new.a c.insert_at-2.new.a A.at A.x E.result E.ensures.2 c.insert_at.ensures.1
     c.insert_at-2.ensures.1
 
 pub add_last_spec : {M : Type 1} → statement M

@@ -15,7 +15,7 @@ overflow_add-l c = search rules
 returns : tie.Need-returns
 returns c =
     let A = c.args in
-    root_added A.t1 c.insert_at.new.0 c.insert_at-2.new.0 A.x c.insert_at.ensures.1 c.insert_at-2.ensures.1
+    root_added A.l c.insert_at.new.a c.insert_at-2.new.a A.x c.insert_at.ensures.1 c.insert_at-2.ensures.1
 
 pub add_root_spec : {M : Type 1} → statement M
 add_root_spec = tie.close (tie.spec insert_at-requires insert_at-requires-2 overflow_add-l returns)

@@ -27,7 +27,7 @@ returns c =
     let q = c.before.before in
     let r = q.before.before in
     let A = r.args in
-    full_answer A.s.now A.room.now (le-ltb (length A.room.now) 16384 r.if-room-lt16384.false) r.read_tree-p.result q.put_read-n.new.1.0 q.put_read-n.result
+    full_answer A.s.now A.room.now (le-ltb (length A.room.now) 16384 r.if-room-lt16384.false) r.read_tree-p.result q.put_read-n.new.room q.put_read-n.result
     r.read_tree-p.ensures q.put_read-n.ensures
 
 pub answer_into_spec : {M : Type 1} → statement M

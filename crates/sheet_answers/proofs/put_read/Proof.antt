@@ -45,7 +45,7 @@ returns-in-Sheet c =
     let q = c.before.before in
     let e = c.enum_told-1.given in
     let s = c.before.before.before.before.before.before in
-    subst (Stored s.args.room.now q.put_sheet.new.1.0 0 q.put_sheet.result) (sym (ap (text_by s.args.p) e.1)) q.put_sheet.ensures
+    subst (Stored s.args.room.now q.put_sheet.new.room 0 q.put_sheet.result) (sym (ap (text_by s.args.p) e.1)) q.put_sheet.ensures
 
 pub put_read_spec : {M : Type 1} → statement M
 put_read_spec = tie.close (tie.spec enum_known-answer put_refused-requires enum_told-1 put_sheet-requires shape_of-room-in-Refused returns-in-Refused shape_of-room-in-Sheet returns-in-Sheet)

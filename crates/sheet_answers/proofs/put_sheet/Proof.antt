@@ -32,7 +32,7 @@ returns c =
     let l = q.before.before.before.before.before in
     let s = l.before.before.before.before.before in
     let p = s.args.p in
-    then_stored s.args.room.now l.put_line-first.new.0 q.put_taps.new.1.1.1.1.0 0 l.put_line-first.result q.put_taps.result (line_of (p.tapped ∷ []))
+    then_stored s.args.room.now l.put_line-first.new.room q.put_taps.new.room 0 l.put_line-first.result q.put_taps.result (line_of (p.tapped ∷ []))
     (tap_text p.tree 1 (rows_of tap_width p.tapped p.taps)) l.put_line-first.ensures q.put_taps.ensures
 
 pub put_sheet_spec : {M : Type 1} → statement M

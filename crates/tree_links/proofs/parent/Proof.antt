@@ -14,38 +14,38 @@ use Rattle.tree_links.proofs.parent.Tie as tie
 
 position-at-requires : tie.Need-position-at-requires
 position-at-requires c κs =
-    let s = c in
-    let t = s.args.t1 in
+    let s = c.before in
+    let t = s.args.t in
     find_needs t (sized t s.well_formed.0) s.requires.0 s.args.x s.requires.1
 
 parent_at-q-requires : tie.Need-parent_at-q-requires
 parent_at-q-requires c κs =
     let p = c.before.before.before in
-    let s = p in
-    let t = s.args.t1 in
+    let s = p.before in
+    let t = s.args.t in
     let z = sized t s.well_formed.0 in
     (omega (arith, p.position-at.ensures.1, place_low t z s.requires.0 s.args.x s.requires.1), z.order, z.depth)
 
 -- what is found is the parent's slot, or 256
-found : (c : tie.After-parent_at-q) → let s = c in c.parent_at-q.result ≡ parent_at s.args.t1 s.args.x
+found : (c : tie.After-parent_at-q) → let s = c.before.before.before.before.before in c.parent_at-q.result ≡ parent_at s.args.t s.args.x
 found c =
     let p = c.before.before.before.before in
-    let L = p.args.t1.links in
+    let L = p.args.t.links in
     c.parent_at-q.ensures ∙ ap (λ (n : ℕ). last_above (get_or L.depth n 0) 256 (take n L.order) (take n L.depth)) p.position-at.ensures.1
 
 returns-then-q-eq256 : tie.Need-returns-then-q-eq256
 returns-then-q-eq256 c =
     let q = c.before in
-    let s = q in
-    let t = s.args.t1 in
+    let s = q.before.before.before.before.before in
+    let t = s.args.t in
     parent_none t s.args.x (sized t s.well_formed.0) s.requires.0 s.requires.1 (sym (found q) ∙ c.if-q-eq256.true)
 
-there : (c : tie.Else-q-eq256) → let q = c.before in let s = q in
-    (q.parent_at-q.result < 256) × (link.Some (id_at s.args.t1 q.parent_at-q.result) ≡ link_of (parent_of s.args.t1 s.args.x))
+there : (c : tie.Else-q-eq256) → let q = c.before in let s = q.before.before.before.before.before in
+    (q.parent_at-q.result < 256) × (link.Some (id_at s.args.t q.parent_at-q.result) ≡ link_of (parent_of s.args.t s.args.x))
 there c =
     let q = c.before in
-    let s = q in
-    let t = s.args.t1 in
+    let s = q.before.before.before.before.before in
+    let t = s.args.t in
     rw (found q) (parent_some t s.args.x (sized t s.well_formed.0) s.requires.0 s.requires.1 (λ z. c.if-q-eq256.false (found q ∙ z)))
 
 id_of-requires : tie.Need-id_of-requires

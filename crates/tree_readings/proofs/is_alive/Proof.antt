@@ -21,8 +21,8 @@ is_live-requires c κs =
     let e = c in
     let n = e.before.before in
     let s = n in
-    let z = sized s.args.t1 s.well_formed.0 in
-    live_needs s.args.t1 z (held_accepted s.args.t1 z (sym n.held.ensures ∙ e.in-Accepted.is))
+    let z = sized s.args.t s.well_formed.0 in
+    live_needs s.args.t z (held_accepted s.args.t z (sym n.held.ensures ∙ e.in-Accepted.is))
 
 returns-in-Refused : tie.Need-returns-in-Refused
 unfolding bool_if

@@ -30,7 +30,7 @@ level_at-requires c κs =
     let n = e.before.before in
     let s = n in
     let told = sym n.of_node.ensures ∙ e.in-Accepted.is in
-    (node_accepted s.args.t1 (sized s.args.t1 s.well_formed.0) s.args.id told).slot_low
+    (node_accepted s.args.t (sized s.args.t s.well_formed.0) s.args.id told).slot_low
 
 returns-in-Refused : tie.Need-returns-in-Refused
 unfolding level_if

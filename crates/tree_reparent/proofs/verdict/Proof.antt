@@ -19,27 +19,27 @@ of_parent-v-requires : tie.Need-of_parent-v-requires
 of_parent-v-requires c κs =
     let n = c.before.before.before in
     let Z = n in
-    let l = sized Z.args.t1 Z.well_formed.0 in
-    λ e. live_needs Z.args.t1 l (node_accepted Z.args.t1 l Z.args.id (sym n.of_node-node.ensures ∙ e)).whole
+    let l = sized Z.args.t Z.well_formed.0 in
+    λ e. live_needs Z.args.t l (node_accepted Z.args.t l Z.args.id (sym n.of_node-node.ensures ∙ e)).whole
 
 -- ---- the first tests, and what they give
 
 abbrev start : tie.After-of_parent-v → tie.Start
-start c = c
+start c = c.before.before.before.before
 
-first_is : (c : tie.After-of_parent-v) → let A = (start c).args in c.of_parent-v.result ≡ first A.t1 A.id A.parent
+first_is : (c : tie.After-of_parent-v) → let A = (start c).args in c.of_parent-v.result ≡ first A.t A.id A.parent
 first_is c =
     let A = (start c).args in
-    tested A.t1 A.id A.parent c.of_node-node.result c.of_parent-v.result c.of_node-node.ensures c.of_parent-v.ensures
+    tested A.t A.id A.parent c.of_node-node.result c.of_parent-v.result c.of_node-node.ensures c.of_parent-v.ensures
 
 abbrev from_told : tie.In-Accepted → tie.After-of_parent-v
 from_told c = c.before
 
-both : (c : tie.In-Accepted) → let A = (start (from_told c)).args in Node A.t1 A.id × (parent_live A.t1 A.parent ≡ true)
+both : (c : tie.In-Accepted) → let A = (start (from_told c)).args in Node A.t A.id × (parent_live A.t A.parent ≡ true)
 both c =
     let k = from_told c in
     let A = (start k).args in
-    live_both A.t1 A.id A.parent k.of-parent.result (start k).good.0 (first_is k) c.in-Accepted.is
+    live_both A.t A.id A.parent k.of-parent.result (start k).good.0 (first_is k) c.in-Accepted.is
 
 enum_told-1 : tie.Need-enum_told-1
 enum_told-1 c = search rules
@@ -52,23 +52,23 @@ returns-in_default c =
     let k = c.before in
     let A = (start k).args in
     let q = c.enum_told-in_default-1.given in
-    checked_stopped (first A.t1 A.id A.parent) k.of_parent-v.result (not (at_or_below A.t1 (position_of A.t1 A.id.0) A.parent)) no.BelowItself q.0.0 (first_is k) q.1
+    checked_stopped (first A.t A.id A.parent) k.of_parent-v.result (not (at_or_below A.t (position_of A.t A.id.0) A.parent)) no.BelowItself q.0.0 (first_is k) q.1
 
 position-at-requires : tie.Need-position-at-requires
 position-at-requires c κs =
     let e = c in
     let Z = start (from_told e) in
-    ((both e).0.whole.count_fits, order_long Z.args.t1 Z.good.0)
+    ((both e).0.whole.count_fits, order_long Z.args.t Z.good.0)
 
 -- ---- the node's position
 
 abbrev from_position : tie.After-position-at → tie.In-Accepted
 from_position c = c
 
-at_fits : (c : tie.After-position-at) → c.position-at.result < (start (from_told (from_position c))).args.t1.links.count
+at_fits : (c : tie.After-position-at) → c.position-at.result < (start (from_told (from_position c))).args.t.links.count
 at_fits c =
     let A = (start (from_told (from_position c))).args in
-    place_fits A.t1 A.id c.position-at.result (both (from_position c)).0 c.position-at.ensures.1
+    place_fits A.t A.id c.position-at.result (both (from_position c)).0 c.position-at.ensures.1
 
 is_below-requires : tie.Need-is_below-requires
 is_below-requires c κs = (at_fits c, (both (from_position c)).0.whole.count_fits)
@@ -83,8 +83,8 @@ returns c =
     let p = c.before.before in
     let k = from_told (from_position p) in
     let A = (start k).args in
-    tested_all A.t1 A.id A.parent k.of-parent.result c.check.result p.position-at.result c.is_below.result (first_is k) p.position-at.ensures.1
-    (c.is_below.ensures ∙ is_below_lem A.t1 p.position-at.result A.parent) c.check.ensures
+    tested_all A.t A.id A.parent k.of-parent.result c.check.result p.position-at.result c.is_below.result (first_is k) p.position-at.ensures.1
+    (c.is_below.ensures ∙ is_below_lem A.t p.position-at.result A.parent) c.check.ensures
 
 pub verdict_spec : {M : Type 1} → statement M
 verdict_spec =

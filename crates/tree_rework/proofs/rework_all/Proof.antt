@@ -45,7 +45,7 @@ At c t =
     (lent.locals A.locals-bounds.now A.slop.now A.locals-transform.now A.kind.now A.locals-clip.now t.locals.level t.locals.flags)
     (lent.worlds L.worlds-transform L.clipped L.worlds-clip L.worlds-bounds L.hit_bounds) t.marks
     (lent.keys L.committed L.slot L.keys_generation) t.pending
-    (lent.index L.index_generation L.mark L.payload L.aabb L.auto L.prev L.u A.free.now L.f L.dirty L.q t.index.backend)
+    (lent.index L.index_generation L.mark L.payload L.aabb L.kept L.prev L.u A.free.now L.f L.dirty L.q t.index.backend)
 
 -- what the turn needs
 turn : (c : tie.In-loop-j invariant-loop-j decreases-loop-j) → let S = c.before.before.before in let L = c.loop-j in

@@ -44,15 +44,15 @@ module _ (c : tie.Else-not-live) where
   fit : start.args.links-count ≤ 256
   fit =
       let A = start.args in
-      slots_fit A.order.now A.links-count A.slots_free.now A.slots-frees A.slots_used right start.pre.0
+      slots_fit A.order.now A.links-count A.slots_free.now A.slots-frees A.slots_used right start.requires.0
 
   low : Low start.args.order.now start.args.links-count
   low =
       let A = start.args in
-      slots_low A.order.now A.links-count A.slots_free.now A.slots-frees A.slots_used right start.pre.0
+      slots_low A.order.now A.links-count A.slots_free.now A.slots-frees A.slots_used right start.requires.0
 
   listed : (start.args.links-count ≤ 256) × (length start.args.order.now ≡ 256) × Low start.args.order.now start.args.links-count
-  listed = (fit, start.pre.0, low)
+  listed = (fit, start.requires.0, low)
 
 times_long : (c : tie.After-count_slots-live) → length c.count_slots-live.result.times ≡ 256
 times_long c = search rules
@@ -71,8 +71,8 @@ module _ (c : tie.Else-not-index) where
   fits : from.args.index-used ≤ 512
   fits =
       let A = from.args in
-      sound_of_used A.mark.now A.index_free.now A.index-frees A.dirty.now A.queued A.index-used from.pre.3 from.pre.4
-      from.pre.5 sound
+      sound_of_used A.mark.now A.index_free.now A.index-frees A.dirty.now A.queued A.index-used from.requires.3 from.requires.4
+      from.requires.5 sound
 
 count_slots-live-requires : tie.Need-count_slots-live-requires
 count_slots-live-requires c κs = (c.requires.0, c.requires.2)
@@ -128,8 +128,8 @@ returns c =
     let e = values.before in
     let s = from e in
     let k = (slots_passed e).before in
-    λ t. answered (tree s t) s.pre.0 (right (slots_passed e)) k.count-slots.result.times (k.count-slots.ensures.1 (passed (slots_passed e)))
-    s.pre.3 s.pre.4 s.pre.5 (sound e)
+    λ t. answered (tree s t) s.requires.0 (right (slots_passed e)) k.count-slots.result.times (k.count-slots.ensures.1 (passed (slots_passed e)))
+    s.requires.3 s.requires.4 s.requires.5 (sound e)
     e.depths_ok-shape.ensures
     values.values_right-values.ensures
     marks.marks_right-marks.ensures

@@ -16,22 +16,22 @@ use Rattle.tree_taps.proofs.hit_test_point.Tie as tie
 
 -- before the tables are lent to the verdict
 abbrev start : tie.After-asked_verdict-fresh → tie.Start
-start c = c
+start c = c.before.before.before.before.before.before.before.before.before.before.before.before.before.before.before.before.before.before.before.before.before.before.before.before.before.before
 
 asked_verdict-fresh-requires : tie.Need-asked_verdict-fresh-requires
 asked_verdict-fresh-requires c κs =
-    let s = c in
-    let l = sized s.args.t1 s.well_formed.0 in
+    let s = c.before.before.before.before.before.before.before.before.before.before.before.before.before.before.before.before.before.before.before.before.before.before.before.before.before in
+    let l = sized s.args.t s.well_formed.0 in
     (l.order, l.depth, l.free, l.mark, l.entries_free, l.dirty)
 
 room_verdict-v-requires : tie.Need-room_verdict-v-requires
 room_verdict-v-requires c κs = search rules
 
 -- the verdict, on the tree itself
-judged : (c : tie.After-room_verdict-v) → let A = (start c.before).args in c.room_verdict-v.result ≡ request_verdict A.t1 A.filter.required_flags (length A.room.now)
+judged : (c : tie.After-room_verdict-v) → let A = (start c.before).args in c.room_verdict-v.result ≡ request_verdict A.t A.filter.required_flags (length A.room.now)
 judged c =
     let A = (start c.before).args in
-    c.room_verdict-v.ensures ∙ ap (λ (v : Verdict). room_verdict v (length A.room.now)) (c.asked_verdict-fresh.ensures A.t1)
+    c.room_verdict-v.ensures ∙ ap (λ (v : Verdict). room_verdict v (length A.room.now)) (c.asked_verdict-fresh.ensures A.t)
 
 enum_known-v : tie.Need-enum_known-v
 enum_known-v c = search rules
@@ -41,19 +41,19 @@ returns-in-Refused c =
     let w = c.before in
     let A = (start w.before).args in
     let asked = A.filter.required_flags in
-    refused (request_verdict A.t1 asked (length A.room.now)) A.t1 (hit_node A.t1 asked A.point) A.room.now _ (sym (judged w) ∙ c.in-Refused.is)
+    refused (request_verdict A.t asked (length A.room.now)) A.t (hit_node A.t asked A.point) A.room.now _ (sym (judged w) ∙ c.in-Refused.is)
 
 enum_told-1 : tie.Need-enum_told-1
 enum_told-1 c = search rules
 
-yes : (c : tie.In_default) → let A = (start c.before.before).args in request_verdict A.t1 A.filter.required_flags (length A.room.now) ≡ is.Accepted
+yes : (c : tie.In_default) → let A = (start c.before.before).args in request_verdict A.t A.filter.required_flags (length A.room.now) ≡ is.Accepted
 yes c = sym (judged c.before) ∙ c.in_default.is
 
-took : (c : tie.In_default) → let A = (start c.before.before).args in Accepted A.t1 (length A.room.now)
+took : (c : tie.In_default) → let A = (start c.before.before).args in Accepted A.t (length A.room.now)
 took c =
     let s = start c.before.before in
     let A = s.args in
-    accepted A.t1 (sized A.t1 s.good.0) A.filter.required_flags (length A.room.now) (yes c)
+    accepted A.t (sized A.t s.good.0) A.filter.required_flags (length A.room.now) (yes c)
 
 -- before the tables are lent to the search
 abbrev from : tie.After-strongest-best → tie.In_default
@@ -63,11 +63,11 @@ strongest-best-requires : tie.Need-strongest-best-requires
 strongest-best-requires c κs =
     let e = c in
     let s = start e.before.before.before in
-    tappable s.args.t1 (sized s.args.t1 s.good.0) (took e).whole (took e).no_need
+    tappable s.args.t (sized s.args.t s.good.0) (took e).whole (took e).no_need
 
 -- the answer, on the tree itself
-told : (c : tie.After-strongest-best) → let A = (start (from c).before.before.before).args in best_of c.strongest-best.result ≡ hit_node A.t1 A.filter.required_flags A.point
-told c = c.strongest-best.ensures.0 (start (from c).before.before.before).args.t1
+told : (c : tie.After-strongest-best) → let A = (start (from c).before.before.before).args in best_of c.strongest-best.result ≡ hit_node A.t A.filter.required_flags A.point
+told c = c.strongest-best.ensures.0 (start (from c).before.before.before).args.t
 
 returns-then-best-eq256 : tie.Need-returns-then-best-eq256
 returns-then-best-eq256 c =
@@ -75,10 +75,10 @@ returns-then-best-eq256 c =
     let A = (start e.before.before.before).args in
     let asked = A.filter.required_flags in
     let n = sym (ap best_of c.if-best-eq256.true) ∙ told c.before in
-    nothing (request_verdict A.t1 asked (length A.room.now)) A.t1 (hit_node A.t1 asked A.point) A.room.now (yes e) (sym n ∙ best_none A.t1)
+    nothing (request_verdict A.t asked (length A.room.now)) A.t (hit_node A.t asked A.point) A.room.now (yes e) (sym n ∙ best_none A.t)
 
 -- the best is shown
-shown : (c : tie.Else-best-eq256) → let A = (start (from c.before).before.before.before).args in Shown A.t1.links.order A.t1.links.count c.strongest-best.result
+shown : (c : tie.Else-best-eq256) → let A = (start (from c.before).before.before.before).args in Shown A.t.links.order A.t.links.count c.strongest-best.result
 shown c = c.strongest-best.ensures.1 c.if-best-eq256.false
 
 overflow_cast-x : tie.Need-overflow_cast-x
@@ -88,7 +88,7 @@ position-at-requires : tie.Need-position-at-requires
 position-at-requires c κs =
     let e = from c.before.before.before in
     let s = start e.before.before.before in
-    let p = sound_places s.args.t1 (sized s.args.t1 s.good.0) (took e).whole.test in
+    let p = sound_places s.args.t (sized s.args.t s.good.0) (took e).whole.test in
     (p.0, p.1)
 
 id_of-own-requires : tie.Need-id_of-own-requires
@@ -99,8 +99,8 @@ write_path-deep-requires c κs =
     let y = c.before.before.before.before.before.before.before.before.before.before.before in
     let e = from y.before in
     let s = start e.before.before.before in
-    let z = sized s.args.t1 s.good.0 in
-    let p = sound_places s.args.t1 z (took e).whole.test in
+    let z = sized s.args.t s.good.0 in
+    let p = sound_places s.args.t z (took e).whole.test in
     let at = c.position-at.ensures.1 in
     (omega (arith, at, (shown y).1), p.0, omega (arith, (shown y).0), p.1, z.depth, (took e).whole.depths, p.2, (took e).long)
 
@@ -117,8 +117,8 @@ returns c =
     let W = c.write_path-deep in
     let x = S.result in
     let at = c.position-at.ensures.1 in
-    let E = rw (at, ← path_at_lem A.t1 x) at W.ensures in
-    hit (request_verdict A.t1 asked (length A.room.now)) A.t1 (hit_node A.t1 asked A.point) A.room.now x _ _ _ (yes e) (sym (told y.before) ∙ best_some A.t1 x y.if1.false) c.id_of-own.ensures E.0 E.1
+    let E = rw (at, ← path_at_lem A.t x) at W.ensures in
+    hit (request_verdict A.t asked (length A.room.now)) A.t (hit_node A.t asked A.point) A.room.now x _ _ _ (yes e) (sym (told y.before) ∙ best_some A.t x y.if1.false) c.id_of-own.ensures E.0 E.1
 
 pub hit_test_point_spec : {M : Type 1} → statement M
 hit_test_point_spec =

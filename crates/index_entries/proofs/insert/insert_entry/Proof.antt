@@ -14,7 +14,7 @@ queue_dirty_slot-length-requires c κs = let P = c.requires in rw c.next_slot-t.
 
 -- the slot is below 512: with no slot freed it is the next unused one
 used_after-requires : tie.Need-used_after-requires
-used_after-requires c κs e = let S = c in let A = S.args in omega (arith, S.requires.2, slot_unused A.free.now A.free.now A.frees A.used e)
+used_after-requires c κs e = let S = c.before.before.before.before.before.before.before.before.before in let A = S.args in omega (arith, S.requires.2, slot_unused A.free.now A.free.now A.frees A.used e)
 
 frees_after-requires : tie.Need-frees_after-requires
 frees_after-requires c κs = search rules

@@ -22,7 +22,7 @@ returns : tie.Need-returns
 returns c =
     let A = c.args in
     let E = c.segment_end-e in
-    tree_cut A.t1 c.cut_out.new.0 c.cut_out-2.new.0 A.at E.result E.ensures.2 c.cut_out.ensures.1 c.cut_out-2.ensures.1
+    tree_cut A.l c.cut_out.new.a c.cut_out-2.new.a A.at E.result E.ensures.2 c.cut_out.ensures.1 c.cut_out-2.ensures.1
 
 pub cut_tree_spec : {M : Type 1} → statement M
 cut_tree_spec =

@@ -7,7 +7,7 @@ use Rattle.link_table.proofs.Changes.{depth_fits, moved_root}
 use Rattle.link_table.proofs.moves.move_root.Statement.{statement}
 use Rattle.link_table.proofs.moves.move_root.Tie as tie
 
-lens : (c : tie.Start) → (length c.args.t1.order ≡ 256) × (length c.args.t1.depth ≡ 256)
+lens : (c : tie.Start) → (length c.args.l.order ≡ 256) × (length c.args.l.depth ≡ 256)
 lens c = (search rules, search rules)
 
 segment_end-e-requires : tie.Need-segment_end-e-requires
@@ -22,8 +22,8 @@ bounds-depth-at c = search rules
 shift-requires : tie.Need-shift-requires
 shift-requires c κs =
     let E = c.segment_end-e in
-    let Z = c in
-    let T = Z.args.t1 in
+    let Z = c.before.before.before.before.before in
+    let T = Z.args.l in
     let small = depth_fits T.count T.depth Z.requires.2 in
     (omega (arith, E.ensures), omega (arith, E.ensures, Z.requires), (lens Z).1, λ j g h. omega (arith, small j (omega (arith, E.ensures)), E.ensures, Z.requires))
 
@@ -55,15 +55,15 @@ returns : tie.Need-returns
 returns c =
     let S = c.before.before.before.before.before.before.before.before.before.before in
     let E = c.segment_end-e in
-    let Z = c in
+    let Z = c.before.before.before.before.before.before.before.before.before.before.before.before.before.before.before.before in
     let A = Z.args in
-    let T = A.t1 in
+    let T = A.l in
     let C = c.cut_out-2 in
     let O = c.cut_out in
     let N = c.insert_all in
     let n = Z.requires.1 in
-    moved_root T A.at E.result E.ensures.2 E.ensures.0 E.ensures.1 (omega (arith, lens Z, n)) (omega (arith, lens Z, n)) O.new.0 C.new.0 O.ensures.1 C.ensures.1
-    (A.at + (T.count - E.result)) 1 S.shift.new.0 N.new.0 c.insert_all-2.new.0 S.shift.ensures.1 N.ensures.1 c.insert_all-2.ensures.1 refl refl
+    moved_root T A.at E.result E.ensures.2 E.ensures.0 E.ensures.1 (omega (arith, lens Z, n)) (omega (arith, lens Z, n)) O.new.a C.new.a O.ensures.1 C.ensures.1
+    (A.at + (T.count - E.result)) 1 S.shift.new.a N.new.a c.insert_all-2.new.a S.shift.ensures.1 N.ensures.1 c.insert_all-2.ensures.1 refl refl
 
 pub move_root_spec : {M : Type 1} → statement M
 move_root_spec =

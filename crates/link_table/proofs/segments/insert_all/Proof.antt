@@ -22,7 +22,7 @@ returns c =
     let A = c.args in
     let P = c.requires in (
       c.copy_over-2.ensures.0,
-      inserted_all A.n A.e A.k A.from A.a.now A.s.now C1.new.0 c.copy_over-2.new.0 P.0 (omega (arith, P.1, P.3)) (omega (arith, P.2, P.4))
+      inserted_all A.n A.e A.k A.from A.a.now A.s.now C1.new.a c.copy_over-2.new.a P.0 (omega (arith, P.1, P.3)) (omega (arith, P.2, P.4))
           C1.ensures.1 c.copy_over-2.ensures.1,
     )
 

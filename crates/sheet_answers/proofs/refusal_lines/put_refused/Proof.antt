@@ -39,7 +39,7 @@ returns c =
     let q = c.before.before in
     let w = q.before.before.before.before.before in
     let A = w.args in
-    then_stored A.room.now w.put_word-at.new.0 q.put_pair.new.0 0 w.put_word-at.result q.put_pair.result (text.bytes "refused ") (text.line_of (number_of A.why ∷ A.line ∷ [])) w.put_word-at.ensures
+    then_stored A.room.now w.put_word-at.new.room q.put_pair.new.room 0 w.put_word-at.result q.put_pair.result (text.bytes "refused ") (text.line_of (number_of A.why ∷ A.line ∷ [])) w.put_word-at.ensures
     (rw (sym q.number.ensures) q.put_pair.ensures)
 
 pub put_refused_spec : {M : Type 1} → statement M

@@ -47,18 +47,18 @@ start c = (at_loop c).before.before
 -- ---- the tap of a turn
 
 -- the tap that is read is ready
-ready : (c : tie.After-tap_at-p invariant-loop-i decreases-loop-i) → Ready (start c).args.t1 c.tap_at-p.result
-ready c = subst (Ready (start c).args.t1) (sym c.tap_at-p.ensures) ((start c).requires.1 (at_loop c).loop.i c.loop-i-test.true)
+ready : (c : tie.After-tap_at-p invariant-loop-i decreases-loop-i) → Ready (start c).args.t c.tap_at-p.result
+ready c = subst (Ready (start c).args.t) (sym c.tap_at-p.ensures) ((start c).requires.1 (at_loop c).loop.i c.loop-i-test.true)
 
-took : (c : tie.After-tap_at-p invariant-loop-i decreases-loop-i) → Accepted (start c).args.t1 512
+took : (c : tie.After-tap_at-p invariant-loop-i decreases-loop-i) → Accepted (start c).args.t 512
 took c =
-    let t = (start c).args.t1 in
+    let t = (start c).args.t in
     accepted t (sized t (start c).well-formed.0) (asked_of c.tap_at-p.result) 512 (ready c).verdict
 
 loop-i-init : tie.Need-loop-i-init invariant-loop-i decreases-loop-i
 loop-i-init c =
     let A = c.args in
-    let e = no_text A.t1 (rows_of tap_width A.n A.taps.now) in
+    let e = no_text A.t (rows_of tap_width A.n A.taps.now) in
     (search rules, omega (arith, ap length e), subst (λ (l : List ℕ). Stored A.room.now A.room.now A.at A.at l) (sym e) (nothing_stored A.room.now A.at))
 
 tap_at-p-requires : tie.Need-tap_at-p-requires invariant-loop-i decreases-loop-i
@@ -73,24 +73,24 @@ point_of-point-requires c κs = (ready c.before).ranged
 strongest-best-requires : tie.Need-strongest-best-requires invariant-loop-i decreases-loop-i
 strongest-best-requires c κs =
     let q = at_tap (at_point c) in
-    let t = (start q).args.t1 in
+    let t = (start q).args.t in
     tappable t (sized t (start q).good.0) (took q).whole (took q).no_need
 
 answer_at-a-requires : tie.Need-answer_at-a-requires invariant-loop-i decreases-loop-i
 answer_at-a-requires c κs =
     let f = c.before.before.before in
     let q = at_tap (at_point f.before) in
-    let z = sized (start q).args.t1 (start q).good.0 in
+    let z = sized (start q).args.t (start q).good.0 in
     ((took q).whole.count_fits, z.order, z.depth, f.strongest-best.ensures.1)
 
 -- what the tap finds, as the tree answers it
 told : (c : tie.After-answer_at-a invariant-loop-i decreases-loop-i) → let q = at_tap (at_point c.before.before.before.before.before) in
-    c.answer_at-a.result ≡ answered (found (start q).args.t1 (tap_of (row_at tap_width (at_loop q).loop.i (start q).args.taps.now)))
+    c.answer_at-a.result ≡ answered (found (start q).args.t (tap_of (row_at tap_width (at_loop q).loop.i (start q).args.taps.now)))
 told c =
     let f = c.before.before.before.before in
     let o = at_point f.before in
     let q = at_tap o in
-    let t = (start q).args.t1 in
+    let t = (start q).args.t in
     let p = q.tap-at.result in
     let e : hit_node t o.before.asked_of.result o.point_of_lem.result ≡ hit_node t (asked_of p) (point_of p) = ap₂ (hit_node t) o.before.asked_of.ensures o.point_of_lem.ensures in
     c.answer_at-a.ensures
@@ -100,7 +100,7 @@ told c =
 overflow_add-i : tie.Need-overflow_add-i invariant-loop-i decreases-loop-i
 overflow_add-i c =
     let q = at_tap (at_point c.before.before.before.before.before.before) in
-    record { fits = omega (arith, q.before.loop-test.taken, (start q).pre.0) }
+    record { fits = omega (arith, q.before.loop-test.taken, (start q).requires.0) }
 
 put_three-next-requires : tie.Need-put_three-next-requires invariant-loop-i decreases-loop-i
 put_three-next-requires c κs =
@@ -108,18 +108,18 @@ put_three-next-requires c κs =
     let q = at_tap (at_point a.before.before.before.before.before) in
     let s = start q in
     let l = at_loop q in
-    let r = s.pre.1 l.loop.i q.before.loop-test.taken in
+    let r = s.requires.1 l.loop.i q.before.loop-test.taken in
     let e = told a in (
-      omega (arith, s.pre.0),
+      omega (arith, s.requires.0),
       omega (arith, ap (λ (x : Answered). x.place) e, r.place),
       omega (arith, ap (λ (x : Answered). x.depth) e, r.depth),
-      omega (arith, s.pre.0, s.pre.2, l.loop.inv.1, l.loop.inv.2.behind, room_kept l.loop.inv.2),
+      omega (arith, s.requires.0, s.requires.2, l.loop.inv.1, l.loop.inv.2.behind, room_kept l.loop.inv.2),
     )
 
 overflow_add-i-in-loop-i : tie.Need-overflow_add-i-in-loop-i invariant-loop-i decreases-loop-i
 overflow_add-i-in-loop-i c =
     let q = at_tap (at_point c.before.before.before.before.before.before.before.before.before) in
-    record { fits = omega (arith, q.before.loop-test.taken, (start q).pre.0) }
+    record { fits = omega (arith, q.before.loop-test.taken, (start q).requires.0) }
 
 loop-i-smaller : tie.Need-loop-i-smaller invariant-loop-i decreases-loop-i
 loop-i-smaller c =
@@ -136,19 +136,19 @@ loop-i-preserved c =
     let A = s.args in
     let i = l.loop.i in
     let h = q.before.loop-test.taken in
-    let old = tap_text A.t1 1 (take i (rows_of tap_width A.n A.taps.now)) in
-    let line = tap_line A.t1 (i + 1) (row_at tap_width i A.taps.now) in
-    let e = next_text A.t1 A.taps.now A.n i h in
-    let r = s.pre.1 i h in
-    let f = found A.t1 (tap_of (row_at tap_width i A.taps.now)) in
-    let short = short_line (i + 1) (place_hit f) (depth_hit f) (omega (arith, s.pre.0)) (omega (arith, r.place)) (omega (arith, r.depth)) in
+    let old = tap_text A.t 1 (take i (rows_of tap_width A.n A.taps.now)) in
+    let line = tap_line A.t (i + 1) (row_at tap_width i A.taps.now) in
+    let e = next_text A.t A.taps.now A.n i h in
+    let r = s.requires.1 i h in
+    let f = found A.t (tap_of (row_at tap_width i A.taps.now)) in
+    let short = short_line (i + 1) (place_hit f) (depth_hit f) (omega (arith, s.requires.0)) (omega (arith, r.place)) (omega (arith, r.depth)) in
     let b : length (old ++ line) ≡ length old + length line = length-append old line in
-    let more : Stored l.loop.room w.put_three-next.new.0 l.loop.next w.put_three-next.result line =
-    subst (λ (x : Answered). Stored l.loop.room w.put_three-next.new.0 l.loop.next w.put_three-next.result (line_of ((i + 1) ∷ x.place ∷ x.depth ∷ []))) (told a) w.put_three-next.ensures in (
+    let more : Stored l.loop.room w.put_three-next.new.room l.loop.next w.put_three-next.result line =
+    subst (λ (x : Answered). Stored l.loop.room w.put_three-next.new.room l.loop.next w.put_three-next.result (line_of ((i + 1) ∷ x.place ∷ x.depth ∷ []))) (told a) w.put_three-next.ensures in (
       omega arith,
       omega (arith, ap length e, b, short, l.loop.inv.1),
-      subst (Stored A.room.now w.put_three-next.new.0 A.at w.put_three-next.result) (sym e)
-          (then_stored A.room.now l.loop.room w.put_three-next.new.0 A.at l.loop.next w.put_three-next.result old line l.loop.inv.2 more),
+      subst (Stored A.room.now w.put_three-next.new.room A.at w.put_three-next.result) (sym e)
+          (then_stored A.room.now l.loop.room w.put_three-next.new.room A.at l.loop.next w.put_three-next.result old line l.loop.inv.2 more),
     )
 
 shape_of-room : tie.Need-shape_of-room invariant-loop-i decreases-loop-i
@@ -160,7 +160,7 @@ returns c =
     let A = l.args in
     let n : l.loop-i.i ≡ A.n = omega arith in
     subst (Stored A.room.now l.loop-i.room A.at l.loop-i.next)
-    (ap (λ (k : ℕ). tap_text A.t1 1 (take k (rows_of tap_width A.n A.taps.now))) n ∙ all_text A.t1 A.taps.now A.n) l.loop-i.invariant.2
+    (ap (λ (k : ℕ). tap_text A.t 1 (take k (rows_of tap_width A.n A.taps.now))) n ∙ all_text A.t A.taps.now A.n) l.loop-i.invariant.2
 
 pub put_taps_spec : {M : Type 1} → statement M
 put_taps_spec =

@@ -13,7 +13,7 @@ put_number-next-requires : tie.Need-put_number-next-requires
 put_number-next-requires c κs = (c.requires.0, omega (arith, c.requires.1))
 
 -- the number stands in the room, and a place is left behind it
-left : (c : tie.After-put_number-next) → c.put_number-next.result < length c.put_number-next.new.0
+left : (c : tie.After-put_number-next) → c.put_number-next.result < length c.put_number-next.new.room
 left c =
     let s = c.before.before.before in
     omega (arith, c.put_number-next.ensures.behind, room_kept c.put_number-next.ensures, short s.args.n s.requires.0, s.requires.1)
@@ -25,14 +25,14 @@ overflow_add-result : tie.Need-overflow_add-result
 overflow_add-result c = record { fits = omega (arith, left c.before.before, room_kept c.put_number-next.ensures, c.well_formed.0.0) }
 
 shape_of-room : tie.Need-shape_of-room
-shape_of-room c = length-set c.put_number-next.new.0 c.put_number-next.result c.args.mark ∙ c.put_number-next.auto.0
+shape_of-room c = length-set c.put_number-next.new.room c.put_number-next.result c.args.mark ∙ c.put_number-next.auto.room
 
 returns : tie.Need-returns
 returns c =
     let p = c.before.before in
     let A = c.args in
-    then_stored A.room.now p.put_number-next.new.0 (set p.put_number-next.new.0 p.put_number-next.result A.mark) A.at p.put_number-next.result (p.put_number-next.result + 1)
-    (decimal A.n) (A.mark ∷ []) p.put_number-next.ensures (byte_stored p.put_number-next.new.0 p.put_number-next.result A.mark)
+    then_stored A.room.now p.put_number-next.new.room (set p.put_number-next.new.room p.put_number-next.result A.mark) A.at p.put_number-next.result (p.put_number-next.result + 1)
+    (decimal A.n) (A.mark ∷ []) p.put_number-next.ensures (byte_stored p.put_number-next.new.room p.put_number-next.result A.mark)
 
 pub put_marked_spec : {M : Type 1} → statement M
 put_marked_spec = tie.close (tie.spec put_number-next-requires bounds-room-next overflow_add-result shape_of-room returns)

@@ -13,7 +13,7 @@ use Rattle.sheet_answers.proofs.text.put_number.Tie as tie
 
 -- what is copied: the number's digits, which the room has place for
 abbrev text : tie.After-decimal-k → List ℕ
-text c = take c.decimal-k.result c.decimal-k.new.1.0
+text c = take c.decimal-k.result c.decimal-k.new.out
 
 digits_of : (c : tie.After-decimal-k) → text c ≡ decimal c.args.n
 digits_of c = c.decimal-k.ensures.1.1 ∙ spelt c.decimal-k.result c.args.n c.decimal-k.ensures.1.0
@@ -59,9 +59,9 @@ returns c =
     let d = q.before.before.before in
     let A = d.args in
     let old = A.room.now in
-    let new = take A.at old ++ (q.copy.new.1.0 ++ drop (length old - A.at) (drop A.at old)) in
+    let new = take A.at old ++ (q.copy.new.dst ++ drop (length old - A.at) (drop A.at old)) in
     text_same old new A.at (A.at + q.copy.result) (text d) (decimal A.n) (digits_of d)
-    (subst (λ (k : ℕ). Stored old new A.at (A.at + k) (text d)) (sym q.copy.ensures.0) (copied old A.at q.copy.new.1.0 (text d) (room_for d) q.copy.ensures.1))
+    (subst (λ (k : ℕ). Stored old new A.at (A.at + k) (text d)) (sym q.copy.ensures.0) (copied old A.at q.copy.new.dst (text d) (room_for d) q.copy.ensures.1))
 
 pub put_number_spec : {M : Type 1} → statement M
 put_number_spec =

@@ -13,7 +13,7 @@ use Rattle.sheet_answers.proofs.text.put_pair.Tie as tie
 put_marked-second-requires : tie.Need-put_marked-second-requires
 put_marked-second-requires c κs = (c.requires.0, omega (arith, c.requires.2))
 
-room_left : (c : tie.After-put_marked-second) → c.put_marked-second.result + 5 ≤ length c.put_marked-second.new.0
+room_left : (c : tie.After-put_marked-second) → c.put_marked-second.result + 5 ≤ length c.put_marked-second.new.room
 room_left c =
     let s = c.before.before.before in
     let e : length (marked s.args.n 32) ≡ length (decimal s.args.n) + 1 = length-append (decimal s.args.n) (32 ∷ []) in
@@ -27,16 +27,16 @@ put_marked-requires c κs =
     (s.requires.1, left)
 
 shape_of-room : tie.Need-shape_of-room
-shape_of-room c = c.put_marked.auto.0 ∙ c.put_marked-second.auto.0
+shape_of-room c = c.put_marked.auto.room ∙ c.put_marked-second.auto.room
 
 returns : tie.Need-returns
 returns c =
     let q = c.before.before in
     let p = q.before.before.before.before in
     let A = p.args in
-    text_same A.room.now q.put_marked.new.0 A.at q.put_marked.result (marked A.n 32 ++ line_of (A.m ∷ [])) (line_of (A.n ∷ A.m ∷ [])) (line_more A.n A.m [])
-    (then_stored A.room.now p.put_marked-second.new.0 q.put_marked.new.0 A.at p.put_marked-second.result q.put_marked.result (marked A.n 32) (line_of (A.m ∷ [])) p.put_marked-second.ensures
-    (text_same p.put_marked-second.new.0 q.put_marked.new.0 p.put_marked-second.result q.put_marked.result (marked A.m 10) (line_of (A.m ∷ [])) (line_one A.m) q.put_marked.ensures))
+    text_same A.room.now q.put_marked.new.room A.at q.put_marked.result (marked A.n 32 ++ line_of (A.m ∷ [])) (line_of (A.n ∷ A.m ∷ [])) (line_more A.n A.m [])
+    (then_stored A.room.now p.put_marked-second.new.room q.put_marked.new.room A.at p.put_marked-second.result q.put_marked.result (marked A.n 32) (line_of (A.m ∷ [])) p.put_marked-second.ensures
+    (text_same p.put_marked-second.new.room q.put_marked.new.room p.put_marked-second.result q.put_marked.result (marked A.m 10) (line_of (A.m ∷ [])) (line_one A.m) q.put_marked.ensures))
 
 pub put_pair_spec : {M : Type 1} → statement M
 put_pair_spec = tie.close (tie.spec put_marked-second-requires put_marked-requires shape_of-room returns)

@@ -13,7 +13,7 @@ use Rattle.sheet_answers.proofs.text.put_three.Tie as tie
 put_marked-second-requires : tie.Need-put_marked-second-requires
 put_marked-second-requires c κs = (c.requires.0, omega (arith, c.requires.3))
 
-room_left : (c : tie.After-put_marked-second) → c.put_marked-second.result + 10 ≤ length c.put_marked-second.new.0
+room_left : (c : tie.After-put_marked-second) → c.put_marked-second.result + 10 ≤ length c.put_marked-second.new.room
 room_left c =
     let s = c.before.before.before in
     let e : length (marked s.args.n 32) ≡ length (decimal s.args.n) + 1 = length-append (decimal s.args.n) (32 ∷ []) in
@@ -27,15 +27,15 @@ put_pair-requires c κs =
     (s.requires.1, s.requires.2, left)
 
 shape_of-room : tie.Need-shape_of-room
-shape_of-room c = c.put_pair.auto.0 ∙ c.put_marked-second.auto.0
+shape_of-room c = c.put_pair.auto.room ∙ c.put_marked-second.auto.room
 
 returns : tie.Need-returns
 returns c =
     let q = c.before.before in
     let p = q.before.before.before.before in
     let A = p.args in
-    text_same A.room.now q.put_pair.new.0 A.at q.put_pair.result (marked A.n 32 ++ line_of (A.m ∷ A.k ∷ [])) (line_of (A.n ∷ A.m ∷ (A.k ∷ []))) (line_more A.n A.m (A.k ∷ []))
-    (then_stored A.room.now p.put_marked-second.new.0 q.put_pair.new.0 A.at p.put_marked-second.result q.put_pair.result (marked A.n 32) (line_of (A.m ∷ A.k ∷ [])) p.put_marked-second.ensures
+    text_same A.room.now q.put_pair.new.room A.at q.put_pair.result (marked A.n 32 ++ line_of (A.m ∷ A.k ∷ [])) (line_of (A.n ∷ A.m ∷ (A.k ∷ []))) (line_more A.n A.m (A.k ∷ []))
+    (then_stored A.room.now p.put_marked-second.new.room q.put_pair.new.room A.at p.put_marked-second.result q.put_pair.result (marked A.n 32) (line_of (A.m ∷ A.k ∷ [])) p.put_marked-second.ensures
     q.put_pair.ensures)
 
 pub put_three_spec : {M : Type 1} → statement M

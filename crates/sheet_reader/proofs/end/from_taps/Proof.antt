@@ -55,7 +55,7 @@ returns-then-next-s c = let a = c.args in
       c.refused-then-next-s.ensures.0
           ∙ before_end (4 + (a.n + a.m) + k) _ a.s.now next c.if-next-s.true
           ∙ taps_go (rows_of place_width a.n a.places) (rows_of clip_width a.m a.clips) a.n a.m (rows_length place_width a.n a.places) (rows_length clip_width a.m a.clips) (drop a.at a.s.now)
-          (rows_of tap_width k c.counted.new.1.1.1.1.1.0) k (drop next a.s.now) (rows_length tap_width k c.counted.new.1.1.1.1.1.0) e,
+          (rows_of tap_width k c.counted.new.table) k (drop next a.s.now) (rows_length tap_width k c.counted.new.table) e,
       c.refused-then-next-s.ensures.1,
     )
 
@@ -73,8 +73,8 @@ returns-else-next-s c = let a = c.args in
     let next = c.in-Ended.next in (
       at_end_lem (4 + (a.n + a.m) + k) _ a.s.now next c.if-next-s.false
           ∙ taps_go (rows_of place_width a.n a.places) (rows_of clip_width a.m a.clips) a.n a.m (rows_length place_width a.n a.places) (rows_length clip_width a.m a.clips) (drop a.at a.s.now)
-          (rows_of tap_width k c.counted.new.1.1.1.1.1.0) k (drop next a.s.now) (rows_length tap_width k c.counted.new.1.1.1.1.1.0) (rw c.in-Ended.is at c.counted.ensures.0),
-      counted_sheet a.places a.n a.clips a.m c.counted.new.1.1.1.1.1.0 k,
+          (rows_of tap_width k c.counted.new.table) k (drop next a.s.now) (rows_length tap_width k c.counted.new.table) (rw c.in-Ended.is at c.counted.ensures.0),
+      counted_sheet a.places a.n a.clips a.m c.counted.new.table k,
     )
 
 pub from_taps_spec : {M : Type 1} → statement M

@@ -58,7 +58,7 @@ returns-then-not-in_range c = let a = c.args in (
 )
 
 fits_before-requires : tie.Need-fits_before-requires invariant-loop-i decreases-loop-i
-fits_before-requires c κs = let s = c in
+fits_before-requires c κs = let s = c.before.before.before.before.before.before.before.before.before.before.before.before in
     let l : s.args.n * (rule_of s.args.kind).width ≤ length c.loop-i.table = omega (arith, c.loop-i.invariant.long, s.requires.3) in
     (omega (arith, c.loop-i-test.true, s.requires.0), room c.loop-i.i s.args.n (rule_of s.args.kind).width (length c.loop-i.table) c.loop-i.invariant.few l)
 
@@ -81,7 +81,7 @@ overflow_mul-i c = let a : c.loop-i.i * c.width_of-width.result ≤ most_lines *
     omega arith
 
 put_row-requires : tie.Need-put_row-requires invariant-loop-i decreases-loop-i
-put_row-requires c κs = let s = c in
+put_row-requires c κs = let s = c.before.before.before.before.before.before.before.before.before.before.before.before.before.before.before.before in
     let w = c.width_of-width.result in
     let i = c.loop-i.i in
     let l : s.args.n * (rule_of s.args.kind).width ≤ length c.loop-i.table = omega (arith, c.loop-i.invariant.long, s.requires.3) in
@@ -101,7 +101,7 @@ loop-i-preserved c = let a = c.args in
     let r : length c.fields_at-f.result.row ≡ line_width = search rules in
     turn a.kind a.n a.line a.from a.s.now a.table.now c.loop-i.table c.loop-i.at c.loop-i.i c.loop-i.invariant
     c.width_of-width.result c.width_of-width.ensures.0 c.requires.0 c.requires.2 c.requires.3 c.loop-i-test.true c.fields_at-f.result c.fields_at-f.ensures.0 c.if-not-f.false
-    c.in_range.result c.in_range.ensures c.if-not-in_range.false c.fits_before.result c.fits_before.ensures c.put_row.new.0 c.if-not-fits_before.false r c.put_row.ensures
+    c.in_range.result c.in_range.ensures c.if-not-in_range.false c.fits_before.result c.fits_before.ensures c.put_row.new.table c.if-not-fits_before.false r c.put_row.ensures
 
 shape_of-table : tie.Need-shape_of-table invariant-loop-i decreases-loop-i
 shape_of-table c = c.loop-i.invariant.long

@@ -51,7 +51,7 @@ returns-in-Ended c = let a = c.args in
     let next = c.in-Ended.next in (
       c.from_taps.ensures.0
           ∙ clips_go (rows_of place_width a.n a.places) a.n (rows_length place_width a.n a.places) (drop a.at a.s.now)
-          (rows_of clip_width m c.counted.new.1.1.1.1.1.0) (drop next a.s.now) (rw c.in-Ended.is at c.counted.ensures.0),
+          (rows_of clip_width m c.counted.new.table) (drop next a.s.now) (rw c.in-Ended.is at c.counted.ensures.0),
       c.from_taps.ensures.1,
     )
 

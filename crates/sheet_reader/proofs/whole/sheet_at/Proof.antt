@@ -51,7 +51,7 @@ returns-in-Ended c = let a = c.args in
     let next = c.in-Ended.next in (
       c.from_clips.ensures.0
           ∙ places_go (drop a.at a.s.now) (omega (arith, c.left.ensures, c.if-left-gt65536.false))
-          (rows_of place_width n c.counted.new.1.1.1.1.1.0) (drop next a.s.now) (rw c.in-Ended.is at c.counted.ensures.0),
+          (rows_of place_width n c.counted.new.table) (drop next a.s.now) (rw c.in-Ended.is at c.counted.ensures.0),
       c.from_clips.ensures.1,
     )
 

@@ -70,7 +70,7 @@ clip_for-own-requires : tie.Need-clip_for-own-requires invariant-loop-i decrease
 clip_for-own-requires c κs =
     let s = begin c.before.before in
     let A = s.args in
-    ((few s).1, omega (arith, low c.before, (few s).0), clips_ranged A.places.now A.n A.clips.now A.m s.pre)
+    ((few s).1, omega (arith, low c.before, (few s).0), clips_ranged A.places.now A.n A.clips.now A.m s.requires)
 
 -- the row's line, whose insert is accepted
 line : (c : tie.After-place_at-p invariant-loop-i decreases-loop-i) → c.place_at-p.result ≡ place_of (row_at place_width c.loop-i.i (begin c.before.before).args.places.now)
@@ -82,7 +82,7 @@ accepted c =
     let l = c.before.before in
     let s = begin l in
     let A = s.args in
-    rw (line c) (place_accepted A.places.now A.n A.clips.now A.m s.pre l.loop-i.i (low c.before))
+    rw (line c) (place_accepted A.places.now A.n A.clips.now A.m s.requires l.loop-i.i (low c.before))
 
 parent_in-parent-requires : tie.Need-parent_in-parent-requires invariant-loop-i decreases-loop-i
 parent_in-parent-requires c κs = let a = accepted c.before in (a.upward, a.earlier)
@@ -121,7 +121,7 @@ insert_place-requires c κs =
     let s = begin l in
     let A = s.args in
     fits l.loop.generation l.loop.order l.loop.depth (locals_at l) (marks_at l)
-    A.places.now A.n A.clips.now A.m s.pre l.loop.i (low p.before.before.before) l.loop.inv.1 p.parent_in_lem.result (parent p)
+    A.places.now A.n A.clips.now A.m s.requires l.loop.i (low p.before.before.before) l.loop.inv.1 p.parent_in_lem.result (parent p)
 
 overflow_add-i-in-loop-i : tie.Need-overflow_add-i-in-loop-i invariant-loop-i decreases-loop-i
 overflow_add-i-in-loop-i c =
@@ -141,7 +141,7 @@ loop-i-preserved c =
     let h = low p.before.before.before in (
       omega (arith, h),
       next l.loop.generation l.loop.order l.loop.depth (locals_at l) (marks_at l)
-          A.places.now A.n A.clips.now A.m s.pre l.loop.i h l.loop.inv.1 p.parent_in_lem.result (parent p) v.local-of.result _ (local v) c.insert_place.ensures,
+          A.places.now A.n A.clips.now A.m s.requires l.loop.i h l.loop.inv.1 p.parent_in_lem.result (parent p) v.local-of.result _ (local v) c.insert_place.ensures,
     )
 
 returns : tie.Need-returns invariant-loop-i decreases-loop-i

@@ -45,10 +45,10 @@ returns c =
     let L = c.store_local.new in
     let locals = lent.locals A.bounds.now A.slop.now A.locals-transform.now A.kind.now A.locals-clip.now A.level.now A.flags.now in
     let marks = lent.marks A.marked.now A.marks-transform.now A.marks-clip.now in
-    placed A.generation.now A.order.now A.depth.now locals marks A.x A.parent A.v o.insert_at.new.0 d.insert_at-2.new.0
+    placed A.generation.now A.order.now A.depth.now locals marks A.x A.parent A.v o.insert_at.new.a d.insert_at-2.new.a
     (lent.locals L.0 L.1.0 L.1.1.0 L.1.1.1.0 L.1.1.1.1.0 L.1.1.1.1.1.0 L.1.1.1.1.1.1.0)
     (linked (tree A.generation.now (lent.links A.order.now A.depth.now A.x) locals marks)
-    A.parent A.x p.spot_under-s.result.at p.spot_under-s.result.depth o.insert_at.new.0 d.insert_at-2.new.0
+    A.parent A.x p.spot_under-s.result.at p.spot_under-s.result.depth o.insert_at.new.a d.insert_at-2.new.a
     p.spot_under-s.ensures.1 p.spot_under-s.ensures.2 o.insert_at.ensures.1 d.insert_at-2.ensures.1)
     c.store_local.ensures
 

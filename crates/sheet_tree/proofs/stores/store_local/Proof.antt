@@ -46,7 +46,7 @@ returns c =
     let k = r.before.before.before.before.before.before.before in
     let A = k.args in
     local_stored (lent.locals A.bounds.now A.slop.now A.transform.now A.kind.now A.clip.now A.level.now A.flags.now) A.x A.v
-    k.construct-own.result c.clip_kind.result _ r.put_rect.new.0 i.put_insets.new.0 a.put_affine.new.0 p.put_clip.new.0
+    k.construct-own.result c.clip_kind.result _ r.put_rect.new.a i.put_insets.new.a a.put_affine.new.a p.put_clip.new.a
     k.construct-own.ensures c.clip_kind.ensures (to_z-of_z w32 A.v.z_index (sfits_of k.well_formed.1.1.1.1.1.1.1.1.0.1.1.1.1.1.1.0.1))
     r.put_rect.ensures i.put_insets.ensures a.put_affine.ensures p.put_clip.ensures
 

@@ -25,22 +25,22 @@ loop-i-init c =
 offset_bounds-dirty-i : tie.Need-offset_bounds-dirty-i invariant-loop-i decreases-loop-i
 offset_bounds-dirty-i c =
     let A = c.args in let L = c.loop-i in
-    omega (arith, i_low A.aabb.now A.prev.now A.dirty.now A.queued (start A.mark.now A.kept.now A.free.now A.frees A.present.now A.boxes.now) L.mark L.auto L.free L.present L.boxes L.f L.i L.invariant c.loop-i-test.true)
+    omega (arith, i_low A.aabb.now A.prev.now A.dirty.now A.queued (start A.mark.now A.kept.now A.free.now A.frees A.present.now A.boxes.now) L.mark L.kept L.free L.present L.boxes L.f L.i L.invariant c.loop-i-test.true)
 
 bounds-dirty-i : tie.Need-bounds-dirty-i invariant-loop-i decreases-loop-i
 bounds-dirty-i c =
     let A = c.args in let L = c.loop-i in
-    omega (arith, i_low A.aabb.now A.prev.now A.dirty.now A.queued (start A.mark.now A.kept.now A.free.now A.frees A.present.now A.boxes.now) L.mark L.auto L.free L.present L.boxes L.f L.i L.invariant c.loop-i-test.true)
+    omega (arith, i_low A.aabb.now A.prev.now A.dirty.now A.queued (start A.mark.now A.kept.now A.free.now A.frees A.present.now A.boxes.now) L.mark L.kept L.free L.present L.boxes L.f L.i L.invariant c.loop-i-test.true)
 
 commit_slot-c-requires : tie.Need-commit_slot-c-requires invariant-loop-i decreases-loop-i
 commit_slot-c-requires c κs =
     let A = c.args in let L = c.loop-i in
-    (x_low A.aabb.now A.prev.now A.dirty.now A.queued (start A.mark.now A.kept.now A.free.now A.frees A.present.now A.boxes.now) L.mark L.auto L.free L.present L.boxes L.f L.i L.invariant c.loop-i-test.true, x_room A.aabb.now A.prev.now A.dirty.now A.queued (start A.mark.now A.kept.now A.free.now A.frees A.present.now A.boxes.now) L.mark L.auto L.free L.present L.boxes L.f L.i L.invariant c.loop-i-test.true)
+    (x_low A.aabb.now A.prev.now A.dirty.now A.queued (start A.mark.now A.kept.now A.free.now A.frees A.present.now A.boxes.now) L.mark L.kept L.free L.present L.boxes L.f L.i L.invariant c.loop-i-test.true, x_room A.aabb.now A.prev.now A.dirty.now A.queued (start A.mark.now A.kept.now A.free.now A.frees A.present.now A.boxes.now) L.mark L.kept L.free L.present L.boxes L.f L.i L.invariant c.loop-i-test.true)
 
 overflow_add-i : tie.Need-overflow_add-i invariant-loop-i decreases-loop-i
 overflow_add-i c =
     let A = c.args in let L = c.loop-i in
-    omega (arith, i_low A.aabb.now A.prev.now A.dirty.now A.queued (start A.mark.now A.kept.now A.free.now A.frees A.present.now A.boxes.now) L.mark L.auto L.free L.present L.boxes L.f L.i L.invariant c.loop-i-test.true)
+    omega (arith, i_low A.aabb.now A.prev.now A.dirty.now A.queued (start A.mark.now A.kept.now A.free.now A.frees A.present.now A.boxes.now) L.mark L.kept L.free L.present L.boxes L.f L.i L.invariant c.loop-i-test.true)
 
 loop-i-smaller : tie.Need-loop-i-smaller invariant-loop-i decreases-loop-i
 loop-i-smaller c = omega (arith, c.loop-i-test.true)
@@ -49,7 +49,7 @@ loop-i-preserved : tie.Need-loop-i-preserved invariant-loop-i decreases-loop-i
 loop-i-preserved c =
     let A = c.args in let L = c.loop-i in
     let S = c.commit_slot-c.ensures in
-    step A.aabb.now A.prev.now A.dirty.now A.queued (start A.mark.now A.kept.now A.free.now A.frees A.present.now A.boxes.now) L.mark L.auto L.free L.present L.boxes L.f L.i L.invariant c.loop-i-test.true c.commit_slot-c.result _ _ _ _ _ S.0 S.1.0 S.1.1.0 S.1.1.1.0 S.1.1.1.1.0 S.1.1.1.1.1
+    step A.aabb.now A.prev.now A.dirty.now A.queued (start A.mark.now A.kept.now A.free.now A.frees A.present.now A.boxes.now) L.mark L.kept L.free L.present L.boxes L.f L.i L.invariant c.loop-i-test.true c.commit_slot-c.result _ _ _ _ _ S.0 S.1.0 S.1.1.0 S.1.1.1.0 S.1.1.1.1.0 S.1.1.1.1.1
 
 returns : tie.Need-returns invariant-loop-i decreases-loop-i
 returns c =

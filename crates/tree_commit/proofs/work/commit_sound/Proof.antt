@@ -22,7 +22,7 @@ use Rattle.tree_commit.proofs.work.commit_sound.Tie as tie
 
 -- from each call back to the one before
 abbrev begins : tie.After-needs-need → tie.Start
-begins c = c
+begins c = c.before.before.before.before.before.before.before.before.before.before.before.before.before.before.before.before.before.before.before.before.before.before.before.before.before.before.before.before.before.before
 
 abbrev from_pending : tie.After-put_pending → tie.Else-not-need
 from_pending c = c.before.before.before.before
@@ -48,7 +48,7 @@ pending_count S = sym (length_rects S.args.t.pending.rects S.args.t.pending.coun
 
 needs-need-requires : tie.Need-needs-need-requires
 needs-need-requires c κs =
-    let S = c in
+    let S = c.before.before.before.before.before.before.before.before.before.before.before.before.before.before.before.before.before.before.before.before.before.before.before.before.before.before.before.before.before in
     let t = S.args.t in
     let z = sized t (whole_here S) in
     let p = sound_places t z S.requires.0 in
@@ -67,7 +67,7 @@ returns-then-not-need c =
     clean A.t A.room.now (sym (told N) ∙ c.if-not-need.true)
 
 put_pending-requires : tie.Need-put_pending-requires
-put_pending-requires c κs = let S = begins c.before.before.before.before in ((sound_here S).pending_fits, S.pre.1, (whole_here S).pending)
+put_pending-requires c κs = let S = begins c.before.before.before.before in ((sound_here S).pending_fits, S.requires.1, (whole_here S).pending)
 
 positions-n-requires : tie.Need-positions-n-requires
 positions-n-requires c κs =
@@ -78,7 +78,7 @@ positions-n-requires c κs =
 as_long : (c : tie.After-put_pending) → let S = begins (from_pending c).before in (room : List Float) → room ≡ rects_in_front (begun S.args.t).damage S.args.room.now → length room ≡ length S.args.room.now
 as_long c room e =
     let S = begins (from_pending c).before in
-    front_same (begun S.args.t).damage S.args.room.now room e (omega (arith, pending_count S, (sound_here S).pending_fits, S.pre.1))
+    front_same (begun S.args.t).damage S.args.room.now room e (omega (arith, pending_count S, (sound_here S).pending_fits, S.requires.1))
 
 rework_all-r-requires : tie.Need-rework_all-r-requires
 rework_all-r-requires c κs =
@@ -93,7 +93,7 @@ rework_all-r-requires c κs =
       W.links.order,
       W.links.depth,
       W.index.dirty,
-      omega (arith, S.pre.1, as_long D _ D.put-pending.ensures),
+      omega (arith, S.requires.1, as_long D _ D.put-pending.ensures),
       (t, (begun t).damage, pending_count S, positions_ready t _ _ _ E.0 E.1 W (sound_here S)),
     )
 

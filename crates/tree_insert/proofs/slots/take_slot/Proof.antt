@@ -13,7 +13,7 @@ offset_bounds-s-x c = search rules
 bounds-s-x : tie.Need-bounds-s-x
 bounds-s-x c =
     let Z = c.before in
-    omega (arith, id_low Z.args.t1 Z.args.id Z.requires.2 Z.requires.1)
+    omega (arith, id_low Z.args.s Z.args.id Z.requires.2 Z.requires.1)
 
 used_after-requires : tie.Need-used_after-requires
 used_after-requires c κs = search rules
@@ -24,7 +24,7 @@ frees_after-requires c κs = search rules
 returns : tie.Need-returns
 returns c =
     let Z = c.before.before.before in
-    slot_taken Z.args.t1 Z.args.id c.used_after.result c.frees_after.result Z.requires.2 c.used_after.ensures c.frees_after.ensures
+    slot_taken Z.args.s Z.args.id c.used_after.result c.frees_after.result Z.requires.2 c.used_after.ensures c.frees_after.ensures
 
 pub take_slot_spec : {M : Type 1} → statement M
 take_slot_spec =

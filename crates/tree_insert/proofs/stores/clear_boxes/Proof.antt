@@ -14,7 +14,7 @@ returns : tie.Need-returns
 unfolding of_bits of_fields odd
 returns c =
     let Z = c.before.before.before.before in
-    cleared Z.args.t1 Z.args.x c.put_rect.new.0 c.put_rect-2.new.0 c.put_rect.ensures c.put_rect-2.ensures
+    cleared Z.args.w Z.args.x c.put_rect.new.a c.put_rect-2.new.a c.put_rect.ensures c.put_rect-2.ensures
 
 pub clear_boxes_spec : {M : Type 1} → statement M
 clear_boxes_spec = tie.close (tie.spec put_rect-requires put_rect-requires-2 returns)

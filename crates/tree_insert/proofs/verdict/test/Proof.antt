@@ -12,27 +12,27 @@ use Rattle.tree_insert.proofs.verdict.test.Tie as tie
 
 -- before the tables are lent
 abbrev start : tie.After-sound_tables-sound → tie.Start
-start c = c
+start c = c.before.before.before.before.before.before.before.before.before.before.before.before.before.before.before.before.before.before.before.before.before.before.before.before
 
 sound_tables-sound-requires : tie.Need-sound_tables-sound-requires
 sound_tables-sound-requires c κs =
-    let s = c in
-    let l = sized s.args.t1 s.well_formed.0 in
+    let s = c.before.before.before.before.before.before.before.before.before.before.before.before.before.before.before.before.before.before.before.before.before.before.before in
+    let l = sized s.args.t s.well_formed.0 in
     (l.order, l.depth, l.free, l.mark, l.entries_free, l.dirty)
 
 check-held-requires : tie.Need-check-held-requires
 check-held-requires c κs = search rules
 
 -- the first test is `held`
-told : (c : tie.After-check-held) → c.check-held.result ≡ held (start c.before).args.t1
-told c = c.check-held.ensures ∙ ap (λ (b : Bool). checked is.Accepted b no.Unsound) (c.sound_tables-sound.ensures (start c.before).args.t1)
+told : (c : tie.After-check-held) → c.check-held.result ≡ held (start c.before).args.t
+told c = c.check-held.ensures ∙ ap (λ (b : Bool). checked is.Accepted b no.Unsound) (c.sound_tables-sound.ensures (start c.before).args.t)
 
 of_parent-linked-requires : tie.Need-of_parent-linked-requires
 of_parent-linked-requires c κs =
     let k = c.before.before.before in
     let s = start k.before in
-    let l = sized s.args.t1 s.good.0 in
-    λ e. live_needs s.args.t1 l (held_accepted s.args.t1 l (sym (told k) ∙ e))
+    let l = sized s.args.t s.good.0 in
+    λ e. live_needs s.args.t l (held_accepted s.args.t l (sym (told k) ∙ e))
 
 is_finite-requires : tie.Need-is_finite-requires
 is_finite-requires c κs = search rules
@@ -56,7 +56,7 @@ returns c =
     let p = f.before.before in
     let h = p.before.before.before.before in
     let A = (start h.before).args in
-    rw (c.check.ensures, k.check-known.ensures, k.is_Known.ensures, f.check-finite.ensures, f.is_finite.ensures, p.of_parent-linked.ensures, told h, parent_in_lem A.t1 A.parent)
+    rw (c.check.ensures, k.check-known.ensures, k.is_Known.ensures, f.check-finite.ensures, f.is_finite.ensures, p.of_parent-linked.ensures, told h, parent_in_lem A.t A.parent)
 
 pub test_spec : {M : Type 1} → statement M
 test_spec =

@@ -57,7 +57,7 @@ loop-i-preserved c =
       I.3,
       ap length P.ensures ∙ put_length L.room L.i d.result ∙ I.4,
       I.5,
-      front_next A.generation.now A.slots.now A.room.now L.room P.new.0 L.i d.result (omega (arith, k, I.1, I.2)) (omega (arith, k, I.1, I.3)) I.6 d.ensures P.ensures,
+      front_next A.generation.now A.slots.now A.room.now L.room P.new.room L.i d.result (omega (arith, k, I.1, I.2)) (omega (arith, k, I.1, I.3)) I.6 d.ensures P.ensures,
     )
 
 shape_of-room : tie.Need-shape_of-room invariant-loop-i decreases-loop-i

@@ -7,15 +7,15 @@ use Rattle.tree_links.proofs.walks.prev_in_order.Tie as tie
 
 position-at-requires : tie.Need-position-at-requires
 position-at-requires c κs =
-    let s = c in
-    let t = s.args.t1 in
+    let s = c.before in
+    let t = s.args.t in
     find_needs t (sized t s.well_formed.0) s.requires.0 s.args.x s.requires.1
 
 -- the node's own place is one of the table
 low : (c : tie.After-position-at) → c.position-at.result < 256
 low c =
-    let s = c in
-    let t = s.args.t1 in
+    let s = c.before.before in
+    let t = s.args.t in
     omega (arith, c.position-at.ensures.1, place_low t (sized t s.well_formed.0) s.requires.0 s.args.x s.requires.1)
 
 depth_at-requires : tie.Need-depth_at-requires
@@ -25,16 +25,16 @@ returns-then-depth_at-eq1 : tie.Need-returns-then-depth_at-eq1
 returns-then-depth_at-eq1 c =
     let d = c.before in
     let p = d.before.before.before in
-    let s = p in
-    prev_root s.args.t1 s.args.x p.position-at.result p.position-at.ensures.1 d.depth_at.result d.depth_at.ensures c.if-depth_at-eq1.true
+    let s = p.before in
+    prev_root s.args.t s.args.x p.position-at.result p.position-at.ensures.1 d.depth_at.result d.depth_at.ensures c.if-depth_at-eq1.true
 
 -- below a root there is a place before
 later : (c : tie.Else-depth_at-eq1) → 1 ≤ c.position-at.result
 later c =
     let d = c.before in
     let p = d.before.before.before in
-    let s = p in
-    let t = s.args.t1 in
+    let s = p.before in
+    let t = s.args.t in
     let z = sized t s.well_formed.0 in
     omega (arith, p.position-at.ensures.1, not_first t z s.requires.0 s.args.x s.requires.1 (λ o. c.if-depth_at-eq1.false (rw (d.depth_at.ensures, p.position-at.ensures.1) o)))
 
@@ -46,7 +46,7 @@ id_at-requires c κs =
     let e = c.before.before.before in
     let p = e.before.before.before.before in
     let s = p in
-    let t = s.args.t1 in
+    let t = s.args.t in
     let z = sized t s.well_formed.0 in
     let k = place_in t z s.requires.0 s.args.x s.requires.1 in
     (omega (arith, low p), slot_low t z s.requires.0 s.args.x s.requires.1 (p.position-at.result - 1) (omega (arith, k, later e, p.position-at.ensures.1)))
@@ -57,7 +57,7 @@ returns c =
     let d = e.before in
     let p = d.before.before.before in
     let s = p in
-    prev_there s.args.t1 s.args.x p.position-at.result p.position-at.ensures.1 d.depth_at.result d.depth_at.ensures c.id_at.result c.id_at.ensures e.if1.false
+    prev_there s.args.t s.args.x p.position-at.result p.position-at.ensures.1 d.depth_at.result d.depth_at.ensures c.id_at.result c.id_at.ensures e.if1.false
 
 pub prev_in_order_spec : {M : Type 1} → statement M
 prev_in_order_spec =

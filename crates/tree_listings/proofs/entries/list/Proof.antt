@@ -99,7 +99,7 @@ loop-k-preserved c =
     let E = rw I.ensures at P.ensures.0 in (
       omega (arith, l.loop-k-test.true),
       ap length E ∙ push_length T.takes-take.result L.room L.n (id_of t L.k) ∙ L.invariant.1,
-      listing_next (id_of t) (takes t A.asked g) A.room.now L.room P.new.0 L.n P.result L.k T.takes-take.result L.invariant.2 s.requires.3 (taken_few t A.asked g s.requires.0 (L.k + 1) (omega arith)) T.takes-take.ensures E P.ensures.1,
+      listing_next (id_of t) (takes t A.asked g) A.room.now L.room P.new.room L.n P.result L.k T.takes-take.result L.invariant.2 s.requires.3 (taken_few t A.asked g s.requires.0 (L.k + 1) (omega arith)) T.takes-take.ensures E P.ensures.1,
     )
 
 shape_of-room : tie.Need-shape_of-room invariant-loop-k decreases-loop-k

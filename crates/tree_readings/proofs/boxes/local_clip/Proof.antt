@@ -25,7 +25,7 @@ low : (e : tie.In-Accepted) → e.args.id.0 < 256
 low e =
     let n = e.before in
     let s = n.before in
-    (node_accepted s.args.t1 (sized s.args.t1 s.well_formed.0) s.args.id (sym n.of_node.ensures ∙ e.in-Accepted.is)).slot_low
+    (node_accepted s.args.t (sized s.args.t s.well_formed.0) s.args.id (sym n.of_node.ensures ∙ e.in-Accepted.is)).slot_low
 
 byte_at-kind-requires : tie.Need-byte_at-kind-requires
 byte_at-kind-requires c κs = low c

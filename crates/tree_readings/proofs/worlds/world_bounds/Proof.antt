@@ -28,7 +28,7 @@ rect_at-requires c κs =
     let n = e.before.before in
     let s = n in
     let told = sym n.of_world.ensures ∙ e.in-Accepted.is in
-    (node_accepted s.args.t1 (sized s.args.t1 s.well_formed.0) s.args.id (checked_accepted (of_node s.args.t1 s.args.id) (not (needs_commit s.args.t1)) no.NeedsCommit told).0).slot_low
+    (node_accepted s.args.t (sized s.args.t s.well_formed.0) s.args.id (checked_accepted (of_node s.args.t s.args.id) (not (needs_commit s.args.t)) no.NeedsCommit told).0).slot_low
 
 returns-in-Refused : tie.Need-returns-in-Refused
 unfolding rect_if

@@ -17,7 +17,7 @@ overflow_add-result c = omega (arith, c.requires (sym c.has_area.ensures ∙ c.i
 returns-then-has_area : tie.Need-returns-then-has_area
 returns-then-has_area c =
     let A = c.args in
-    pushed A.rects.now A.count A.r c.put_rect.new.0 c.put_rect.ensures (sym c.has_area.ensures ∙ c.if-has_area.true)
+    pushed A.rects.now A.count A.r c.put_rect.new.a c.put_rect.ensures (sym c.has_area.ensures ∙ c.if-has_area.true)
 
 returns : tie.Need-returns
 returns c =

@@ -58,7 +58,7 @@ returns c =
     let A = z.args in
     let T = c.remove_entry.ensures in
     removed A.committed A.key.0 A.mark.now A.free.now A.dirty.now A.frees A.queued d.in-Live.e.mark
-    c.remove_entry.new.0 c.remove_entry.new.1.0 c.remove_entry.new.1.1.0 c.remove_entry.result.frees c.remove_entry.result.queued
+    c.remove_entry.new.mark c.remove_entry.new.free c.remove_entry.new.dirty c.remove_entry.result.frees c.remove_entry.result.queued
     (committed_is z) (unmarked_here d) T.0 T.1.0 T.1.1.0 T.1.1.1.0 T.1.1.1.1
 
 pub remove_key_spec : {M : Type 1} → statement M

@@ -108,19 +108,19 @@ enum_told-1 c = search rules
 
 returns-in_default : tie.Need-returns-in_default
 returns-in_default c =
-    let S = c in
+    let S = c.before.before.before.before.before.before.before.before.before.before in
     let A = S.args in
     let dead = look_dead A.index_generation.now A.mark.now A.payload.now A.aabb.now A.kept.now A.prev.now (key A.slot.now A.keys_generation.now A.x) (sym c.look_up-found.ensures ∙ c.in_default.is) in
-    let lives = S.requires.2.1.key_lives (is_old c) in
+    let lives = S.requires.2.1.key_lives (is_old c.before.before.before.before.before.before.before.before.before.before) in
     let z : ◌≡◌ {A = ℕ} 0 1 = cc in
     absurd (omega arith)
 
 update_entry-length-requires : tie.Need-update_entry-length-requires
 update_entry-length-requires c κs =
-    let S = c in
+    let S = c.before.before.before.before.before.before.before.before.before.before.before.before.before.before.before in
     let A = S.args in
     let F = S.requires.2.1 in
-    let o = is_old c in (
+    let o = is_old c.before.before.before.before.before.before.before.before.before.before.before.before.before.before.before in (
       (live_slot A.index_generation.now A.mark.now (key A.slot.now A.keys_generation.now A.x) (F.key_lives o)).0,
       F.queue_fits,
       S.requires.1,
@@ -129,9 +129,9 @@ update_entry-length-requires c κs =
 
 returns : tie.Need-returns
 returns c =
-    let S = c in
+    let S = c.before.before.before.before.before.before.before.before.before.before.before.before.before.before.before.before in
     let A = S.args in
-    let o = is_old c in
+    let o = is_old c.before.before.before.before.before.before.before.before.before.before.before.before.before.before.before.before in
     let L = look_live A.index_generation.now A.mark.now A.payload.now A.aabb.now A.kept.now A.prev.now (key A.slot.now A.keys_generation.now A.x) _ (sym c.look_up-found.ensures ∙ c.in-Live.is) in
     let T = c.update_entry-length.ensures in (
       (λ backend. (

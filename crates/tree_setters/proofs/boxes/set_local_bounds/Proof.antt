@@ -15,12 +15,12 @@ abbrev start : tie.After-check-v → tie.Start
 start c = c.before.before.before
 
 abbrev verdict : tie.After-check-v → Verdict
-verdict c = bounds_verdict (start c).args.t1 (start c).args.id (start c).args.bounds
+verdict c = bounds_verdict (start c).args.t (start c).args.id (start c).args.bounds
 
 tested : (c : tie.After-check-v) → c.check-v.result ≡ verdict c
 tested c =
     let A = (start c).args in
-    tested_all (of_node A.t1 A.id) c.of_node-node.result c.check-v.result (finite_rect A.bounds) c.is_finite.result no.NotFinite
+    tested_all (of_node A.t A.id) c.of_node-node.result c.check-v.result (finite_rect A.bounds) c.is_finite.result no.NotFinite
     c.of_node-node.ensures
     c.is_finite.ensures
     c.check-v.ensures
@@ -29,7 +29,7 @@ low : (c : tie.In-Accepted) → (start c.before).args.id.0 < 256
 low c =
     let k = c.before in
     let A = (start k).args in
-    tested_low A.t1 A.id (finite_rect A.bounds) no.NotFinite k.check-v.result (start k).well-formed.0 (tested k) c.in-Accepted.is
+    tested_low A.t A.id (finite_rect A.bounds) no.NotFinite k.check-v.result (start k).well-formed.0 (tested k) c.in-Accepted.is
 
 of_node-node-requires : tie.Need-of_node-node-requires
 of_node-node-requires c κs = search rules
@@ -49,7 +49,7 @@ enum_told-in_default c = search rules
 returns-in_default : tie.Need-returns-in_default
 returns-in_default c =
     let k = c.before in
-    refused (verdict k) k.check-v.result _ (start k).args.t1 (tested k) c.in_default.field-0 c.in_default.is
+    refused (verdict k) k.check-v.result _ (start k).args.t (tested k) c.in_default.field-0 c.in_default.is
 
 overflow_cast-x : tie.Need-overflow_cast-x
 overflow_cast-x c = search rules
@@ -71,8 +71,8 @@ returns-then-eq c =
     let e = from_read d in
     let k = e.before.before in
     let A = (start k).args in
-    accepted (verdict k) k.check.result _ A.t1 (tested k) A.t1 e.enum_told.given.1
-    (bounds_stays A.t1 A.id.0 c.eq.result A.bounds d.rect_at-stored.result d.rect_at-stored.ensures c.eq.ensures c.if-eq.true)
+    accepted (verdict k) k.check.result _ A.t (tested k) A.t e.enum_told.given.1
+    (bounds_stays A.t A.id.0 c.eq.result A.bounds d.rect_at-stored.result d.rect_at-stored.ensures c.eq.ensures c.if-eq.true)
 
 put_rect-requires : tie.Need-put_rect-requires
 put_rect-requires c κs = low (from_read c.before.before.before)
@@ -88,8 +88,8 @@ returns c =
     let e = from_read d in
     let k = e.before.before in
     let A = (start k).args in
-    accepted (verdict k) k.check.result _ A.t1 (tested k) _ e.enum_told.given.1
-    (bounds_done A.t1 A.id.0 f.eq.result A.bounds d.rect_at-stored.result d.rect_at-stored.ensures f.eq.ensures f.if-eq.false p.put_rect.new.0 c.mark.new.0 p.put_rect.ensures c.mark.ensures)
+    accepted (verdict k) k.check.result _ A.t (tested k) _ e.enum_told.given.1
+    (bounds_done A.t A.id.0 f.eq.result A.bounds d.rect_at-stored.result d.rect_at-stored.ensures f.eq.ensures f.if-eq.false p.put_rect.new.a c.mark.new.marks p.put_rect.ensures c.mark.ensures)
 
 pub set_local_bounds_spec : {M : Type 1} → statement M
 set_local_bounds_spec =

@@ -15,12 +15,12 @@ abbrev start : tie.After-check-v → tie.Start
 start c = c.before.before.before
 
 abbrev verdict : tie.After-check-v → Verdict
-verdict c = clip_verdict (start c).args.t1 (start c).args.id (start c).args.clip
+verdict c = clip_verdict (start c).args.t (start c).args.id (start c).args.clip
 
 tested : (c : tie.After-check-v) → c.check-v.result ≡ verdict c
 tested c =
     let A = (start c).args in
-    tested_all (of_node A.t1 A.id) c.of_node-node.result c.check-v.result (finite_clip A.clip) c.is_finite.result no.NotFinite
+    tested_all (of_node A.t A.id) c.of_node-node.result c.check-v.result (finite_clip A.clip) c.is_finite.result no.NotFinite
     c.of_node-node.ensures
     c.is_finite.ensures
     c.check-v.ensures
@@ -29,7 +29,7 @@ low : (c : tie.In-Accepted) → (start c.before).args.id.0 < 256
 low c =
     let k = c.before in
     let A = (start k).args in
-    tested_low A.t1 A.id (finite_clip A.clip) no.NotFinite k.check-v.result (start k).well-formed.0 (tested k) c.in-Accepted.is
+    tested_low A.t A.id (finite_clip A.clip) no.NotFinite k.check-v.result (start k).well-formed.0 (tested k) c.in-Accepted.is
 
 of_node-node-requires : tie.Need-of_node-node-requires
 of_node-node-requires c κs = search rules
@@ -49,7 +49,7 @@ enum_told-in_default c = search rules
 returns-in_default : tie.Need-returns-in_default
 returns-in_default c =
     let k = c.before in
-    refused (verdict k) k.check-v.result _ (start k).args.t1 (tested k) c.in_default.field-0 c.in_default.is
+    refused (verdict k) k.check-v.result _ (start k).args.t (tested k) c.in_default.field-0 c.in_default.is
 
 overflow_cast-x : tie.Need-overflow_cast-x
 overflow_cast-x c = search rules
@@ -77,8 +77,8 @@ returns-then-eq c =
     let e = from_read d in
     let k = e.before.before in
     let A = (start k).args in
-    accepted (verdict k) k.check.result _ A.t1 (tested k) A.t1 e.enum_told.given.1
-    (clip_stays A.t1 A.id.0 c.eq.result A.clip (made d).construct.result d.stored_clip-stored.result (made d).construct.ensures d.stored_clip-stored.ensures c.eq.ensures c.if-eq.true)
+    accepted (verdict k) k.check.result _ A.t (tested k) A.t e.enum_told.given.1
+    (clip_stays A.t A.id.0 c.eq.result A.clip (made d).construct.result d.stored_clip-stored.result (made d).construct.ensures d.stored_clip-stored.ensures c.eq.ensures c.if-eq.true)
 
 clip_kind-kind-requires : tie.Need-clip_kind-kind-requires
 clip_kind-kind-requires c κs = search rules
@@ -106,8 +106,8 @@ returns c =
     let e = from_read d in
     let k = e.before.before in
     let A = (start k).args in
-    accepted (verdict k) k.check.result _ A.t1 (tested k) _ e.enum_told.given.1
-    (clip_done A.t1 A.id.0 f.eq.result A.clip (made d).construct.result d.stored_clip-stored.result (made d).construct.ensures d.stored_clip-stored.ensures f.eq.ensures f.if-eq.false n.clip_kind-kind.result b.put_byte.new.0 p.put_clip.new.0 m.mark.new.0 c.mark-2.new.0 n.clip_kind-kind.ensures b.put_byte.ensures p.put_clip.ensures m.mark.ensures c.mark-2.ensures)
+    accepted (verdict k) k.check.result _ A.t (tested k) _ e.enum_told.given.1
+    (clip_done A.t A.id.0 f.eq.result A.clip (made d).construct.result d.stored_clip-stored.result (made d).construct.ensures d.stored_clip-stored.ensures f.eq.ensures f.if-eq.false n.clip_kind-kind.result b.put_byte.new.bytes p.put_clip.new.a m.mark.new.marks c.mark-2.new.marks n.clip_kind-kind.ensures b.put_byte.ensures p.put_clip.ensures m.mark.ensures c.mark-2.ensures)
 
 pub set_local_clip_spec : {M : Type 1} → statement M
 set_local_clip_spec =

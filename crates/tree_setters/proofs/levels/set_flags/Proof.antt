@@ -15,12 +15,12 @@ abbrev start : tie.After-check-v → tie.Start
 start c = c.before.before.before
 
 abbrev verdict : tie.After-check-v → Verdict
-verdict c = flags_verdict (start c).args.t1 (start c).args.id (start c).args.flags
+verdict c = flags_verdict (start c).args.t (start c).args.id (start c).args.flags
 
 tested : (c : tie.After-check-v) → c.check-v.result ≡ verdict c
 tested c =
     let A = (start c).args in
-    tested_all (of_node A.t1 A.id) c.of_node-node.result c.check-v.result (known A.flags) c.is_Known.result no.UnknownFlags
+    tested_all (of_node A.t A.id) c.of_node-node.result c.check-v.result (known A.flags) c.is_Known.result no.UnknownFlags
     c.of_node-node.ensures
     c.is_Known.ensures
     c.check-v.ensures
@@ -29,7 +29,7 @@ low : (c : tie.In-Accepted) → (start c.before).args.id.0 < 256
 low c =
     let k = c.before in
     let A = (start k).args in
-    tested_low A.t1 A.id (known A.flags) no.UnknownFlags k.check-v.result (start k).well-formed.0 (tested k) c.in-Accepted.is
+    tested_low A.t A.id (known A.flags) no.UnknownFlags k.check-v.result (start k).well-formed.0 (tested k) c.in-Accepted.is
 
 of_node-node-requires : tie.Need-of_node-node-requires
 of_node-node-requires c κs = search rules
@@ -49,7 +49,7 @@ enum_told-in_default c = search rules
 returns-in_default : tie.Need-returns-in_default
 returns-in_default c =
     let k = c.before in
-    refused (verdict k) k.check-v.result _ (start k).args.t1 (tested k) c.in_default.field-0 c.in_default.is
+    refused (verdict k) k.check-v.result _ (start k).args.t (tested k) c.in_default.field-0 c.in_default.is
 
 overflow_cast-x : tie.Need-overflow_cast-x
 overflow_cast-x c = search rules
@@ -62,8 +62,8 @@ returns c =
     let e = c.before.before.before in
     let k = e.before in
     let A = (start k).args in
-    accepted (verdict k) k.check-v.result _ A.t1 (tested k) _ e.in-Accepted.is
-    (flags_done A.t1 A.id.0 A.flags c.put_byte.new.0 c.put_byte.ensures)
+    accepted (verdict k) k.check-v.result _ A.t (tested k) _ e.in-Accepted.is
+    (flags_done A.t A.id.0 A.flags c.put_byte.new.bytes c.put_byte.ensures)
 
 pub set_flags_spec : {M : Type 1} → statement M
 set_flags_spec =

@@ -14,7 +14,7 @@ low : (c : tie.In-Accepted) → c.args.id.0 < 256
 low c =
     let k = c.before in
     let A = k.args in
-    slot_low A.t1 A.id k.of_node-v.result k.well_formed.0 k.of_node-v.ensures c.in-Accepted.is
+    slot_low A.t A.id k.of_node-v.result k.well_formed.0 k.of_node-v.ensures c.in-Accepted.is
 
 of_node-v-requires : tie.Need-of_node-v-requires
 of_node-v-requires c κs = search rules
@@ -29,7 +29,7 @@ returns-in_default : tie.Need-returns-in_default
 returns-in_default c =
     let k = c.before in
     let A = k.args in
-    refused (of_node A.t1 A.id) k.of_node-v.result _ A.t1 k.of_node-v.ensures c.in_default.field-0 c.in_default.is
+    refused (of_node A.t A.id) k.of_node-v.result _ A.t k.of_node-v.ensures c.in_default.field-0 c.in_default.is
 
 overflow_cast-x : tie.Need-overflow_cast-x
 overflow_cast-x c = search rules
@@ -42,8 +42,8 @@ returns c =
     let e = c.before.before.before in
     let k = e.before in
     let A = k.args in
-    accepted (of_node A.t1 A.id) k.of_node-v.result _ A.t1 k.of_node-v.ensures _ e.in-Accepted.is
-    (level_done A.t1 A.id.0 A.z c.put_level.new.0 (c.put_level.ensures ∙ ap (λ (v : ℤ). set A.t1.locals.level A.id.0 v) (to_z-of_z w32 A.z k.ranges.z)))
+    accepted (of_node A.t A.id) k.of_node-v.result _ A.t k.of_node-v.ensures _ e.in-Accepted.is
+    (level_done A.t A.id.0 A.z c.put_level.new.levels (c.put_level.ensures ∙ ap (λ (v : ℤ). set A.t.locals.level A.id.0 v) (to_z-of_z w32 A.z k.ranges.z)))
 
 pub set_z_index_spec : {M : Type 1} → statement M
 set_z_index_spec =

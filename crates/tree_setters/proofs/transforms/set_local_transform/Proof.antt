@@ -14,13 +14,13 @@ abbrev start : tie.After-test-v → tie.Start
 start c = c.before
 
 abbrev verdict : tie.After-test-v → Verdict
-verdict c = transform_verdict (start c).args.t1 (start c).args.id (start c).args.tf
+verdict c = transform_verdict (start c).args.t (start c).args.id (start c).args.tf
 
 low : (c : tie.In-Accepted) → (start c.before).args.id.0 < 256
 low c =
     let k = c.before in
     let A = (start k).args in
-    tested_low A.t1 A.id (finite_affine A.tf) no.NotFinite k.test-v.result (start k).well-formed.0 k.test-v.ensures c.in-Accepted.is
+    tested_low A.t A.id (finite_affine A.tf) no.NotFinite k.test-v.result (start k).well-formed.0 k.test-v.ensures c.in-Accepted.is
 
 test-v-requires : tie.Need-test-v-requires
 test-v-requires c κs = search rules
@@ -34,7 +34,7 @@ enum_told-in_default c = search rules
 returns-in_default : tie.Need-returns-in_default
 returns-in_default c =
     let k = c.before in
-    refused (verdict k) k.test-v.result _ (start k).args.t1 k.test-v.ensures c.in_default.field-0 c.in_default.is
+    refused (verdict k) k.test-v.result _ (start k).args.t k.test-v.ensures c.in_default.field-0 c.in_default.is
 
 overflow_cast-x : tie.Need-overflow_cast-x
 overflow_cast-x c = search rules
@@ -56,8 +56,8 @@ returns-then-eq c =
     let e = from_read d in
     let k = e.before.before in
     let A = (start k).args in
-    accepted (verdict k) k.test.result _ A.t1 k.test.ensures A.t1 e.enum_told.given.1
-    (transform_stays A.t1 A.id.0 c.eq.result A.tf d.affine_at-stored.result d.affine_at-stored.ensures c.eq.ensures c.if-eq.true)
+    accepted (verdict k) k.test.result _ A.t k.test.ensures A.t e.enum_told.given.1
+    (transform_stays A.t A.id.0 c.eq.result A.tf d.affine_at-stored.result d.affine_at-stored.ensures c.eq.ensures c.if-eq.true)
 
 put_affine-requires : tie.Need-put_affine-requires
 put_affine-requires c κs = low (from_read c.before.before.before)
@@ -77,8 +77,8 @@ returns c =
     let e = from_read d in
     let k = e.before.before in
     let A = (start k).args in
-    accepted (verdict k) k.test.result _ A.t1 k.test.ensures _ e.enum_told.given.1
-    (transform_done A.t1 A.id.0 f.eq.result A.tf d.affine_at-stored.result d.affine_at-stored.ensures f.eq.ensures f.if-eq.false p.put_affine.new.0 m.mark.new.0 c.mark-2.new.0 p.put_affine.ensures m.mark.ensures c.mark-2.ensures)
+    accepted (verdict k) k.test.result _ A.t k.test.ensures _ e.enum_told.given.1
+    (transform_done A.t A.id.0 f.eq.result A.tf d.affine_at-stored.result d.affine_at-stored.ensures f.eq.ensures f.if-eq.false p.put_affine.new.a m.mark.new.marks c.mark-2.new.marks p.put_affine.ensures m.mark.ensures c.mark-2.ensures)
 
 pub set_local_transform_spec : {M : Type 1} → statement M
 set_local_transform_spec =

@@ -13,20 +13,20 @@ use Rattle.tree_setters.proofs.transforms.test.Tie as tie
 
 -- before the tables are lent
 abbrev start : tie.After-sound_tables-sound → tie.Start
-start c = c
+start c = c.before.before.before.before.before.before.before.before.before.before.before.before.before.before.before.before.before.before.before.before.before.before.before.before
 
 sound_tables-sound-requires : tie.Need-sound_tables-sound-requires
 sound_tables-sound-requires c κs =
-    let s = c in
-    let l = sized s.args.t1 s.well_formed.0 in
+    let s = c.before.before.before.before.before.before.before.before.before.before.before.before.before.before.before.before.before.before.before.before.before.before.before in
+    let l = sized s.args.t s.well_formed.0 in
     (l.order, l.depth, l.free, l.mark, l.entries_free, l.dirty)
 
 check-held-requires : tie.Need-check-held-requires
 check-held-requires c κs = search rules
 
 -- the first test is `held`
-told : (c : tie.After-check-held) → c.check-held.result ≡ held (start c.before).args.t1
-told c = c.check-held.ensures ∙ ap (λ (b : Bool). checked is.Accepted b no.Unsound) (c.sound_tables-sound.ensures (start c.before).args.t1)
+told : (c : tie.After-check-held) → c.check-held.result ≡ held (start c.before).args.t
+told c = c.check-held.ensures ∙ ap (λ (b : Bool). checked is.Accepted b no.Unsound) (c.sound_tables-sound.ensures (start c.before).args.t)
 
 enum_told-1 : tie.Need-enum_told-1
 enum_told-1 c = search rules
@@ -40,15 +40,15 @@ returns-in_default c =
     let A = (start h.before).args in
     let q = c.enum_told-in_default-1.given in
     let w = h.check-held.result in
-    checked_stopped (of_node A.t1 A.id) w (finite_affine A.tf) no.NotFinite q.0.0 (checked_stopped (held A.t1) w (live A.t1 A.id) no.DeadNode q.0.0 (told h) q.1) q.1
+    checked_stopped (of_node A.t A.id) w (finite_affine A.tf) no.NotFinite q.0.0 (checked_stopped (held A.t) w (live A.t A.id) no.DeadNode q.0.0 (told h) q.1) q.1
 
 is_live-live-requires : tie.Need-is_live-live-requires
 is_live-live-requires c κs =
     let e = c in
     let h = e.before.before in
     let s = start h in
-    let l = sized s.args.t1 s.good.0 in
-    live_needs s.args.t1 l (held_accepted s.args.t1 l (sym (told h) ∙ e.in-Accepted.is))
+    let l = sized s.args.t s.good.0 in
+    live_needs s.args.t l (held_accepted s.args.t l (sym (told h) ∙ e.in-Accepted.is))
 
 check-node-requires : tie.Need-check-node-requires
 check-node-requires c κs = search rules

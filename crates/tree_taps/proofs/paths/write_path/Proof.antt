@@ -70,7 +70,7 @@ bounds-depth-j : tie.Need-bounds-depth-j invariant-loop-j decreases-loop-j
 bounds-depth-j c = search rules
 
 overflow_cast-e : tie.Need-overflow_cast-e invariant-loop-j decreases-loop-j
-overflow_cast-e c = let l = c.before.before in let s = to_start l in omega (arith, most s (l.loop-j.j - 1) (omega (arith, l.loop-j.invariant.0, s.pre.0, c.loop-j-test.true)), l.loop-j.invariant.0, s.pre.0, s.pre.1)
+overflow_cast-e c = let l = c.before.before in let s = to_start l in omega (arith, most s (l.loop-j.j - 1) (omega (arith, l.loop-j.invariant.0, s.requires.0, c.loop-j-test.true)), l.loop-j.invariant.0, s.requires.0, s.requires.1)
 
 offset_bounds-order-j : tie.Need-offset_bounds-order-j invariant-loop-j decreases-loop-j
 offset_bounds-order-j c = search rules
@@ -79,18 +79,18 @@ bounds-order-j : tie.Need-bounds-order-j invariant-loop-j decreases-loop-j
 bounds-order-j c = search rules
 
 id_of-next-requires : tie.Need-id_of-next-requires invariant-loop-j decreases-loop-j
-id_of-next-requires c κs = let l = c.before.before.before.before in (to_start l).pre.6 (l.loop-j.j - 1) (omega (arith, l.loop-j.invariant.0, (to_start l).pre.0, c.loop-j-test.true))
+id_of-next-requires c κs = let l = c.before.before.before.before in (to_start l).requires.6 (l.loop-j.j - 1) (omega (arith, l.loop-j.invariant.0, (to_start l).requires.0, c.loop-j-test.true))
 
 overflow_sub-d : tie.Need-overflow_sub-d invariant-loop-j decreases-loop-j
-overflow_sub-d c = let l = c.before.before.before.before.before.before in one (to_start l) (l.loop-j.j - 1) (omega (arith, l.loop-j.invariant.0, (to_start l).pre.0, c.loop-j-test.true))
+overflow_sub-d c = let l = c.before.before.before.before.before.before in one (to_start l) (l.loop-j.j - 1) (omega (arith, l.loop-j.invariant.0, (to_start l).requires.0, c.loop-j-test.true))
 
 put_id-requires-then-e-d : tie.Need-put_id-requires-then-e-d invariant-loop-j decreases-loop-j
 put_id-requires-then-e-d c κs =
     let l = c.before.before.before.before.before.before in
     let s = to_start l in
     let h = c.loop-j-test.true in
-    let m = most s (l.loop-j.j - 1) (omega (arith, l.loop-j.invariant.0, s.pre.0, h)) in
-    (omega (arith, m, l.loop-j.invariant.0, s.pre.0, s.pre.1, h), omega (arith, m, l.loop-j.invariant.0, s.pre.0, s.pre.1, h, long l, s.pre.7))
+    let m = most s (l.loop-j.j - 1) (omega (arith, l.loop-j.invariant.0, s.requires.0, h)) in
+    (omega (arith, m, l.loop-j.invariant.0, s.requires.0, s.requires.1, h), omega (arith, m, l.loop-j.invariant.0, s.requires.0, s.requires.1, h, long l, s.requires.7))
 
 loop-j-smaller-then-e-d : tie.Need-loop-j-smaller-then-e-d invariant-loop-j decreases-loop-j
 loop-j-smaller-then-e-d c = search rules
@@ -105,10 +105,10 @@ loop-j-preserved-then-e-d c =
     let P = c.put_id-then-e-d in
     let E = rw c.id_of-next.ensures at P.ensures in (
       omega (arith, L.invariant.0),
-      one s (L.j - 1) (omega (arith, L.invariant.0, s.pre.0, h)),
+      one s (L.j - 1) (omega (arith, L.invariant.0, s.requires.0, h)),
       omega arith,
       ap length E ∙ put_length L.room (get_or A.depth.now (L.j - 1) 0 - 1) (id_of A.generation.now (get_or A.order.now (L.j - 1) 0)) ∙ L.invariant.3,
-      path_turn (id_of A.generation.now) A.count A.order.now A.depth.now s.pre.1 (omega (arith, s.pre.1, s.pre.3)) (omega (arith, s.pre.1, s.pre.4)) s.pre.5 L.room P.new.0 _ L.d L.j (omega (arith, h)) (omega (arith, L.invariant.0, s.pre.0)) c.if-e-d.true (omega (arith, long l, s.pre.7)) L.invariant.4 E,
+      path_turn (id_of A.generation.now) A.count A.order.now A.depth.now s.requires.1 (omega (arith, s.requires.1, s.requires.3)) (omega (arith, s.requires.1, s.requires.4)) s.requires.5 L.room P.new.room _ L.d L.j (omega (arith, h)) (omega (arith, L.invariant.0, s.requires.0)) c.if-e-d.true (omega (arith, long l, s.requires.7)) L.invariant.4 E,
     )
 
 loop-j-smaller : tie.Need-loop-j-smaller invariant-loop-j decreases-loop-j
@@ -125,7 +125,7 @@ loop-j-preserved c =
       L.invariant.1,
       c.if-e-d.false,
       L.invariant.3,
-      path_skip (id_of A.generation.now) A.count A.order.now A.depth.now s.pre.1 (omega (arith, s.pre.1, s.pre.3)) (omega (arith, s.pre.1, s.pre.4)) s.pre.5 L.room _ L.d L.j (omega (arith, h)) (omega (arith, L.invariant.0, s.pre.0)) c.if-e-d.false L.invariant.4,
+      path_skip (id_of A.generation.now) A.count A.order.now A.depth.now s.requires.1 (omega (arith, s.requires.1, s.requires.3)) (omega (arith, s.requires.1, s.requires.4)) s.requires.5 L.room _ L.d L.j (omega (arith, h)) (omega (arith, L.invariant.0, s.requires.0)) c.if-e-d.false L.invariant.4,
     )
 
 shape_of-room : tie.Need-shape_of-room invariant-loop-j decreases-loop-j
@@ -140,7 +140,7 @@ returns c =
     let A = s.args in
     let P = l.put_id in
     let E = rw l.id_of-own.ensures at P.ensures in
-    path_ends (id_of A.generation.now) A.count A.order.now A.depth.now s.pre.1 (omega (arith, s.pre.1, s.pre.3)) (omega (arith, s.pre.1, s.pre.4)) s.pre.5 A.room.now P.new.0 L.room A.x A.at L.d L.j s.pre.0 s.pre.7 (omega (arith, c.loop-j-test.false)) E L.invariant.4
+    path_ends (id_of A.generation.now) A.count A.order.now A.depth.now s.requires.1 (omega (arith, s.requires.1, s.requires.3)) (omega (arith, s.requires.1, s.requires.4)) s.requires.5 A.room.now P.new.room L.room A.x A.at L.d L.j s.requires.0 s.requires.7 (omega (arith, c.loop-j-test.false)) E L.invariant.4
 
 pub write_path_spec : {M : Type 1} → statement M
 write_path_spec =

@@ -6,10 +6,10 @@ use Rattle.tree_verdicts.proofs.need.needs_commit.Tie as tie
 
 needs-requires : tie.Need-needs-requires
 needs-requires c κs =
-    let s = c in
-    let z = sized s.args.t1 s.well_formed.0 in
-    let p = sound_places s.args.t1 z s.requires in
-    let u = sound_used s.args.t1 z s.requires in
+    let s = c.before.before.before in
+    let z = sized s.args.t s.well_formed.0 in
+    let p = sound_places s.args.t z s.requires in
+    let u = sound_used s.args.t z s.requires in
     (p.0, p.1, p.2, u.0, u.1)
 
 returns : tie.Need-returns

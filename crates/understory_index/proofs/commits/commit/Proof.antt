@@ -59,7 +59,7 @@ returns-then-short c =
     (R.0, (R.1, rooms_stay A.ix A.added.now A.removed.now A.old.now A.new.now 7 e))
 
 commit_slots-d-requires : tie.Need-commit_slots-d-requires
-commit_slots-d-requires c κs = let S = c in let A = S.args in let l = long (length A.added.now) (length A.removed.now) (length A.old.now) (length A.new.now) (sym c.short.ensures ∙ c.if-short.false) in ((lens S).0, (lens S).1, (lens S).2, l.0, l.1, l.2, l.3, (A.ix.used, sound_here c.before.before.before.before.before.before.before.before.before.before.before.before.before.before.before.before.before.before.before.before))
+commit_slots-d-requires c κs = let S = c.before.before.before.before.before.before.before.before.before.before.before.before.before.before.before.before.before.before.before.before.before.before.before.before.before.before.before.before.before.before.before.before.before.before in let A = S.args in let l = long (length A.added.now) (length A.removed.now) (length A.old.now) (length A.new.now) (sym c.short.ensures ∙ c.if-short.false) in ((lens S).0, (lens S).1, (lens S).2, l.0, l.1, l.2, l.3, (A.ix.used, sound_here c.before.before.before.before.before.before.before.before.before.before.before.before.before.before.before.before.before.before.before.before))
 
 shape_of-added : tie.Need-shape_of-added
 shape_of-added c = search rules

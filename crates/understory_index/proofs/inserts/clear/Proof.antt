@@ -10,7 +10,7 @@ is_sound-requires c κs = search rules
 
 returns-then-not-is_sound : tie.Need-returns-then-not-is_sound
 returns-then-not-is_sound c =
-    let ix = c.args.t1 in
+    let ix = c.args.ix in
     refuses ix clear 0 (unsound ix (rw (← c.is_sound.ensures) c.if-not-is_sound.true) clear)
 
 fresh-empty-requires : tie.Need-fresh-empty-requires
@@ -19,7 +19,7 @@ fresh-empty-requires c κs = search rules
 returns : tie.Need-returns
 unfolding accepted given
 returns c =
-    let ix = c.args.t1 in
+    let ix = c.args.ix in
     let A = accepts ix clear (clear_any ix (rw (← c.is_sound.ensures) c.if-not-is_sound.false)) in
     (A.0, c.fresh-empty.ensures ∙ A.1)
 

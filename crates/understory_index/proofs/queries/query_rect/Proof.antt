@@ -17,16 +17,16 @@ unfolding refusal
 returns-then-not-is_sound c =
     let A = c.args in
     let call = query_rect A.rect (length A.room.now) in
-    let e = unsound A.t1 (rw (← c.is_sound.ensures) c.if-not-is_sound.true) call in
-    ((refuses A.t1 call 0 e).0, room_stays A.t1 (rect_slots A.t1 A.rect) A.room.now 0 e)
+    let e = unsound A.ix (rw (← c.is_sound.ensures) c.if-not-is_sound.true) call in
+    ((refuses A.ix call 0 e).0, room_stays A.ix (rect_slots A.ix A.rect) A.room.now 0 e)
 
 returns-then-room-lt2048 : tie.Need-returns-then-room-lt2048
 unfolding refusal
 returns-then-room-lt2048 c =
     let A = c.args in
-    let S : not (sound_index A.t1) ≡ false = rw (← c.is_sound.ensures) c.if-not-is_sound.false in
-    let e = query_short A.t1 S (length A.room.now) (lt-ltb (length A.room.now) 2048 c.if-room-lt2048.true) in
-    ((refuses A.t1 (query_rect A.rect (length A.room.now)) 7 e).0, room_stays A.t1 (rect_slots A.t1 A.rect) A.room.now 7 e)
+    let S : not (sound_index A.ix) ≡ false = rw (← c.is_sound.ensures) c.if-not-is_sound.false in
+    let e = query_short A.ix S (length A.room.now) (lt-ltb (length A.room.now) 2048 c.if-room-lt2048.true) in
+    ((refuses A.ix (query_rect A.rect (length A.room.now)) 7 e).0, room_stays A.ix (rect_slots A.ix A.rect) A.room.now 7 e)
 
 visit_rect-requires : tie.Need-visit_rect-requires
 visit_rect-requires c κs = search rules
@@ -39,10 +39,10 @@ unfolding rect_slots
 returns c =
     let L = c.before.before.before.before.before.before.before.before.before.before in
     let A = L.args in
-    let S : not (sound_index A.t1) ≡ false = rw (← L.is_sound.ensures) L.if-not-is_sound.false in
-    let e = query_long A.t1 S (length A.room.now) (le-ltb (length A.room.now) 2048 L.if2.false) in
+    let S : not (sound_index A.ix) ≡ false = rw (← L.is_sound.ensures) L.if-not-is_sound.false in
+    let e = query_long A.ix S (length A.room.now) (le-ltb (length A.room.now) 2048 L.if2.false) in
     let T = c.visit_rect.ensures in
-    query_done A.t1 A.rect A.room.now _ _ e T.0 T.1
+    query_done A.ix A.rect A.room.now _ _ e T.0 T.1
 
 pub query_rect_spec : {M : Type 1} → statement M
 query_rect_spec =
