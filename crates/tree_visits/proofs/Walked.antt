@@ -39,7 +39,7 @@ unfolding times positions_from
 positions_in i a zero h k = absurd (omega arith)
 positions_in i a (suc n) h k =
     elim (ℕ_discrete i a) [
-      | yes e ↦ rw e (positions_here a n)
+      | yes e ↦ ap (λ (k : ℕ). times k (positions_from a (suc n))) e ∙ positions_here a n
       | no m ↦ omega (arith, miss i a m, positions_in i (suc a) n (omega arith) (omega arith))
     ]
 
