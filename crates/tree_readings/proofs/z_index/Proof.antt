@@ -47,7 +47,7 @@ returns-in-Accepted c =
     let e = c in
     let n = e.before.before in
     let told = sym n.of_node.ensures ∙ e.in-Accepted.is in
-    ap level.Value (to_z-of_z (sfits_of c.level_at.type-inv) ∙ c.level_at.ensures) ∙ accepted _ _ told
+    ap level.Value (to_z-of_z (sfits_of c.level_at.type_inv) ∙ c.level_at.ensures) ∙ accepted _ _ told
 
 pub z_index_spec : {M : Type 1} → statement M
 z_index_spec =

@@ -28,10 +28,10 @@ low e =
     (node_accepted s.args.t (sized s.args.t s.well_formed.0) s.args.id (sym n.of_node.ensures ∙ e.in-Accepted.is)).slot_low
 
 byte_at-kind-requires : tie.Need-byte_at-kind-requires
-byte_at-kind-requires c κs = low c
+byte_at-kind-requires c κs = low c.before.before
 
 clip_at-requires : tie.Need-clip_at-requires
-clip_at-requires c κs = low c.before.before.before.before.before
+clip_at-requires c κs = low c.before.before.before.before
 
 returns-in-Refused : tie.Need-returns-in-Refused
 unfolding clip_if

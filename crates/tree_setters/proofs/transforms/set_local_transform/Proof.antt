@@ -20,7 +20,7 @@ low : (c : tie.In-Accepted) → (start c.before).args.id.0 < 256
 low c =
     let k = c.before in
     let A = (start k).args in
-    tested_low A.t A.id (finite_affine A.tf) no.NotFinite k.test-v.result (start k).well-formed.0 k.test-v.ensures c.in-Accepted.is
+    tested_low A.t A.id (finite_affine A.tf) no.NotFinite k.test-v.result (start k).well_formed.0.before.before.before k.test-v.ensures c.in-Accepted.is
 
 test-v-requires : tie.Need-test-v-requires
 test-v-requires c κs = search rules

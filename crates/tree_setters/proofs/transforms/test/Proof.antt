@@ -46,7 +46,7 @@ is_live-live-requires : tie.Need-is_live-live-requires
 is_live-live-requires c κs =
     let e = c in
     let h = e.before.before in
-    let s = start h in
+    let s = start h.before.before in
     let l = sized s.args.t s.well_formed.0 in
     live_needs s.args.t l (held_accepted s.args.t l (sym (told h) ∙ e.in-Accepted.is))
 
@@ -64,7 +64,7 @@ unfolding live
 returns c =
     let k = c.before.before in
     let l = k.before in
-    rw (c.check.ensures, c.is_finite.ensures, k.check-node.ensures, l.is_live-live.ensures, ← told l.before.before.before.before.before)
+    rw (c.check.ensures, c.is_finite.ensures, k.check-node.ensures, l.is_live-live.ensures, ← told c.before.before.before.before.before.before.before)
 
 pub test_spec : {M : Type 1} → statement M
 test_spec =
