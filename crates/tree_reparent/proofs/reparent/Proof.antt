@@ -23,8 +23,7 @@ returns-in_default : tie.Need-returns-in_default
 returns-in_default c =
     let k = c.before in
     let A = k.args in
-    let q = c.enum_told-in_default-1.given in
-    refused (reparent_verdict A.t A.id A.parent) k.verdict-v.result (reparent_tree A.t A.id.0 A.parent) A.t k.verdict-v.ensures q.0.0 q.1
+    refused (reparent_verdict A.t A.id A.parent) k.verdict-v.result (reparent_tree A.t A.id.0 A.parent) A.t k.verdict-v.ensures c.in_default.field-0 c.in_default.is
 
 -- ---- an accepted verdict, and what it gives
 

@@ -17,10 +17,9 @@ of_node-node-requires c κs = search rules
 
 of_parent-v-requires : tie.Need-of_parent-v-requires
 of_parent-v-requires c κs =
-    let n = c.before.before.before in
-    let Z = n in
+    let Z = c.before.before.before in
     let l = sized Z.args.t Z.well_formed.0 in
-    λ e. live_needs Z.args.t l (node_accepted Z.args.t l Z.args.id (sym n.of_node-node.ensures ∙ e)).whole
+    λ e. live_needs Z.args.t l (node_accepted Z.args.t l Z.args.id (sym c.of_node-node.ensures ∙ e)).whole
 
 -- ---- the first tests, and what they give
 
@@ -51,8 +50,7 @@ returns-in_default : tie.Need-returns-in_default
 returns-in_default c =
     let k = c.before in
     let A = (start k).args in
-    let q = c.enum_told-in_default-1.given in
-    checked_stopped (first A.t A.id A.parent) k.of_parent-v.result (not (at_or_below A.t (position_of A.t A.id.0) A.parent)) no.BelowItself q.0.0 (first_is k) q.1
+    checked_stopped (first A.t A.id A.parent) k.of_parent-v.result (not (at_or_below A.t (position_of A.t A.id.0) A.parent)) no.BelowItself c.in_default.field-0 (first_is k) c.in_default.is
 
 position-at-requires : tie.Need-position-at-requires
 position-at-requires c κs =
