@@ -67,7 +67,7 @@ returns-then-not-need c =
     clean A.t A.room.now (sym (told N) ∙ c.if-not-need.true)
 
 put_pending-requires : tie.Need-put_pending-requires
-put_pending-requires c κs = let S = begins c.before.before.before.before in ((sound_here S).pending_fits, S.requires.1, (whole_here S).pending)
+put_pending-requires c κs = let S = begins c.before.before.before in ((sound_here S).pending_fits, S.requires.1, (whole_here S).pending)
 
 positions-n-requires : tie.Need-positions-n-requires
 positions-n-requires c κs =
