@@ -39,10 +39,7 @@ returns-in-Refused c = let n = c.before in rw (← n.of_node.ensures, c.in-Refus
 
 returns-in-Accepted : tie.Need-returns-in-Accepted
 unfolding clip_if local_at
-returns-in-Accepted c =
-    let b = c.before.before.before in
-    let e = b.before.before.before in
-    rw (← e.of_node.ensures, e.in-Accepted.is, c.clip_at.ensures, b.byte_at-kind.ensures)
+returns-in-Accepted c = rw (← c.of_node.ensures, c.in-Accepted.is, c.clip_at.ensures, c.byte_at-kind.ensures)
 
 pub local_clip_spec : {M : Type 1} → statement M
 local_clip_spec =
