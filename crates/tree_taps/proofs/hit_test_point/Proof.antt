@@ -119,7 +119,7 @@ returns c =
     let at = c.position-at.ensures.1 in
     let E = rw (at, ← path_at_lem A.t x) at W.ensures in
     hit (request_verdict A.t asked (length A.room.now)) A.t (hit_node A.t asked A.point) A.room.now x _ _ _ (yes e)
-        (sym (told y.before) ∙ best_some A.t x c.if-best-eq256.false) c.id_of-own.ensures E.0 E.1
+    (sym (told y.before) ∙ best_some A.t x c.if-best-eq256.false) c.id_of-own.ensures E.0 E.1
 
 pub hit_test_point_spec : {M : Type 1} → statement M
 hit_test_point_spec =

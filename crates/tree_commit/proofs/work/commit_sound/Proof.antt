@@ -7,7 +7,7 @@ use native.Mathlib.Omega.{arith}
 use lib.ListN.{length}
 use lib.Ieee.{Float}
 use borrow.Author.Rules.{rules}
-use borrow.Author.Tests.{not-true, not-false}
+use borrow.Author.Tests.{not-false}
 use Rattle.tree_state.specs.Tree.{needs_commit}
 use Rattle.tree_state.specs.Sound.{SoundTree}
 use Rattle.tree_laws.proofs.Whole.{sized}

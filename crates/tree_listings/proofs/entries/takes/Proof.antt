@@ -2,7 +2,6 @@ use mathlib.Core.Path.{◌≡◌, sym, ◌∙◌}
 use mathlib.Core.Bool.{true}
 use Prim.Native.Nat.{◌<◌}
 use borrow.Author.Rules.{rules}
-use borrow.Author.Tests.{not-true, not-false}
 use Rattle.index_query.specs.Query.{visits}
 use Rattle.tree_listings.specs.entries.Entries.{carried_by, meets}
 use Rattle.tree_listings.proofs.entries.Entries.{visits_used}

@@ -1,6 +1,5 @@
 use mathlib.Core.Path.{◌≡◌, sym, ◌∙◌}
 use mathlib.Core.Bool.{true}
-use borrow.Author.Tests.{not-true, not-false}
 use Rattle.index_entries.specs.declared.reads.Mark.TheVariants as is
 use Rattle.tree_remove.specs.steps.Node.{Owned}
 use Rattle.tree_remove.proofs.steps.Steps.{never_dead, found_unmarked, not_added, none_removed, removed}

@@ -1,5 +1,4 @@
 use native.Mathlib.Omega.{arith}
-use borrow.Author.Tests.{not-true, not-false}
 use Rattle.tree_taps.specs.order.Order.{Shown}
 use Rattle.tree_taps.specs.fine.Fine.{fine_at}
 use borrow.Author.Rules.{rules}
