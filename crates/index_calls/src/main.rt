@@ -1,5 +1,7 @@
 // Answers a call list of the index alone, read on standard input, from the proved index: one answer for each call, a line each.
 // An empty line and a line that begins with `#` have no answer. A malformed line is answered `malformed` and changes nothing.
+#![tactic(auto)]
+
 mod show; // the parts of an answer
 mod damage; // a commit's answer
 mod calls; // each call

@@ -1,6 +1,8 @@
 // Times the calls of the index on a fixed list. Standard output has, for each phase, its name, how many units of work a round has, and a sum of
 // the answers; standard error has its name and the processor time of all rounds, in microseconds. The number of rounds is read on standard
 // input: decimal digits, at most four; nothing stands for 1. tools/index_speed has the same list in Rust.
+#![tactic(auto)]
+
 mod work; // the boxes, points and rectangles of the list
 mod answers; // what the answers add to a sum
 mod fill; // inserts and commits of them

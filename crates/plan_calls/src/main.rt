@@ -1,5 +1,7 @@
 // Answers a call list of the box tree, read on standard input, from the proved tree: one answer for each call, a line each.
 // An empty line and a line that begins with `#` have no answer. A malformed line is answered `malformed` and changes nothing.
+#![tactic(auto)]
+
 use text_calls::State;
 use text_lines::input;
 use text_lines::input::{Input, Space};

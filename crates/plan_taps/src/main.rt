@@ -1,4 +1,6 @@
 // Reads a sheet on standard input and writes what its taps hit, or why the sheet is refused.
+#![tactic(auto)]
+
 ghost use Rattle.std.specs.Prelude.{◌≤◌, length};
 
 use sheet_answers::Written;

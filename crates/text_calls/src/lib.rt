@@ -1,4 +1,6 @@
 // Call lists of the box tree: each line is read as a call, the call made, and its answer gathered. A malformed line leaves the tree as it was.
+#![tactic(auto)]
+
 pub mod state; // how a list begins, and which lines have no call
 mod verbs; // the calls by name
 mod read; // what the words of a line stand for

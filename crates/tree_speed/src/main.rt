@@ -1,6 +1,8 @@
 // Times the calls of the box tree on a fixed list. Standard output has, for each phase, its name, how many nodes there are, and a sum of the
 // answers; standard error has its name, the nodes, how many times the call was made, and the processor time in microseconds. The number of
 // rounds is read on standard input. tools/tree_speed has the same list in Rust.
+#![tactic(auto)]
+
 mod work; // the nodes, points and rectangles of the list
 mod answers; // what the answers add to a sum
 mod change; // calls that change the tree

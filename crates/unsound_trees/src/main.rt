@@ -1,6 +1,8 @@
 // Trees made by hand, and what every public call answers on each. A line of standard input is a call, as plan_calls has them; or `chain N`, a
 // committed tree made by calls, N nodes each below the one before; or `set TABLE PLACE NUMBER`, one number of the tree changed by hand; or
 // `every ..`, each public call made on the tree.
+#![tactic(auto)]
+
 mod answers; // whether an answer is refusal 1
 mod calls; // every call
 mod same; // whether two trees are the same
