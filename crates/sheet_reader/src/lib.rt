@@ -1,4 +1,5 @@
 // The sheet reader: one thing that holds the bytes and its place in them, and what it reads there by line, by section and whole.
+#![tactic(auto)]
 
 // The end of a sheet: its taps, and what is behind them.
 pub mod end;
