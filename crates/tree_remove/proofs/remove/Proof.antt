@@ -76,7 +76,7 @@ from_list c = c.before.before.before.before.before
 overflow_sub-e : tie.Need-overflow_sub-e
 overflow_sub-e c =
     let e = from_list c.before.before.before.before.before.before.before.before.before.before.before in
-    omega (arith, e.segment-end.ensures.0)
+    omega (arith, e.segment_end.ensures.0)
 
 remove_nodes-left-requires : tie.Need-remove_nodes-left-requires
 remove_nodes-left-requires c κs =
@@ -86,11 +86,11 @@ remove_nodes-left-requires c κs =
     let d = from_place p in
     let Z = start d in
     let A = Z.args in
-    let E = e.segment-end in
+    let E = e.segment_end in
     let P = p.position in (
-      few A.t Z.good.0 A.id (node d) P.result E.result P.ensures.1 E.ensures.2 E.ensures.0 E.ensures.1 _ _ g.post-order.ensures.1,
-      g.post-order.ensures.0,
-      ready A.t Z.good.0 A.id (node d) P.result E.result P.ensures.1 E.ensures.2 E.ensures.0 E.ensures.1 _ _ g.post-order.ensures.1,
+      few A.t Z.good.0 A.id (node d) P.result E.result P.ensures.1 E.ensures.2 E.ensures.0 E.ensures.1 _ _ g.post_order.ensures.1,
+      g.post_order.ensures.0,
+      ready A.t Z.good.0 A.id (node d) P.result E.result P.ensures.1 E.ensures.2 E.ensures.0 E.ensures.1 _ _ g.post_order.ensures.1,
     )
 
 abbrev from_nodes : tie.After-remove_nodes-left → tie.After-post_order
@@ -110,13 +110,13 @@ returns c =
     let d = from_place p in
     let Z = start d in
     let A = Z.args in
-    let E = e.segment-end in
+    let E = e.segment_end in
     let P = p.position in
     let R = n.remove_nodes-left.result in
     let T = n.remove_nodes-left.ensures in
     let k = d.before.before in
     accepted (of_node A.t A.id) k.of_node_lem.result (remove_tree A.t (position_of A.t A.id.0)) A.t k.of_node_lem.ensures _ d.enum_told.given.1
-    (done A.t Z.good.0 A.id (node d) P.result E.result P.ensures.1 E.ensures.2 E.ensures.0 E.ensures.1 _ _ g.post-order.ensures.1
+    (done A.t Z.good.0 A.id (node d) P.result E.result P.ensures.1 E.ensures.2 E.ensures.0 E.ensures.1 _ _ g.post_order.ensures.1
     c.cut_tree-t.result _ R.slots_frees _ R.pending_count _ _ R.index_frees _ R.queued c.cut_tree-t.ensures T.0.0 T.0.1 T.1.0 T.1.1.0 T.1.1.1.0 T.1.1.1.1)
 
 pub remove_spec : {M : Type 1} → statement M

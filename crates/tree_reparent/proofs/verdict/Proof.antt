@@ -39,7 +39,7 @@ both : (c : tie.In-Accepted) → let A = (start (from_told c)).args in Node A.t 
 both c =
     let k = from_told c in
     let A = (start k).args in
-    live_both A.t A.id A.parent k.of-parent.result (start k).good.0 (first_is k) c.in-Accepted.is
+    live_both A.t A.id A.parent k.of_parent.result (start k).good.0 (first_is k) c.in-Accepted.is
 
 enum_told-1 : tie.Need-enum_told-1
 enum_told-1 c = search rules
@@ -83,7 +83,7 @@ returns c =
     let p = c.before.before in
     let k = from_told (from_position p) in
     let A = (start k).args in
-    tested_all A.t A.id A.parent k.of-parent.result c.check.result p.position-at.result c.is_below.result (first_is k) p.position-at.ensures.1
+    tested_all A.t A.id A.parent k.of_parent.result c.check.result p.position-at.result c.is_below.result (first_is k) p.position-at.ensures.1
     (c.is_below.ensures ∙ is_below_lem A.t p.position-at.result A.parent) c.check.ensures
 
 pub verdict_spec : {M : Type 1} → statement M

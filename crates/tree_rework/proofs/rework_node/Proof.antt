@@ -14,9 +14,9 @@ use Rattle.tree_rework.proofs.rework_node.Tie as tie
 abbrev lend : tie.Start → Tree → Tree
 lend c t =
     let A = c.args in
-    lent.tree (lent.slots A.slots-generation.now t.slots.used t.slots.free t.slots.frees) (lent.links A.order.now A.depth.now t.links.count)
-    (lent.locals A.locals-bounds.now A.slop.now A.locals-transform.now A.kind.now A.locals-clip.now t.locals.level t.locals.flags)
-    (lent.worlds A.worlds-transform.now A.clipped.now A.worlds-clip.now A.worlds-bounds.now A.hit_bounds.now) t.marks
+    lent.tree (lent.slots A.slots_generation.now t.slots.used t.slots.free t.slots.frees) (lent.links A.order.now A.depth.now t.links.count)
+    (lent.locals A.locals_bounds.now A.slop.now A.locals_transform.now A.kind.now A.locals_clip.now t.locals.level t.locals.flags)
+    (lent.worlds A.worlds_transform.now A.clipped.now A.worlds_clip.now A.worlds_bounds.now A.hit_bounds.now) t.marks
     (lent.keys A.committed.now A.slot.now A.keys_generation.now) t.pending
     (lent.index A.index_generation.now A.mark.now A.payload.now A.aabb.now A.kept.now A.prev.now
     A.used A.free.now A.frees A.dirty.now A.queued t.index.backend)

@@ -11,7 +11,7 @@ use Rattle.tree_laws.specs.Whole.{Whole}
 
 module _ (t : Tree) (g : Told t) where
   present_long : length t.index.backend.present ≡ 512
-  present_long = length_unmapped ℕ t.index.backend.present 512 g.1.1.1.1.1.1.1.1.1.0.1.1.1.1.1.1.1.1.1.1.1.1.1.0.1.1.0.1.0.1
+  present_long = g.1.1.1.1.1.1.1.1.1.0.1.1.1.1.1.1.1.1.1.1.1.1.1.0.1.1.0.1.0.1
 
   boxes_long : length t.index.backend.boxes ≡ 2048
   boxes_long = length_unmapped Float t.index.backend.boxes 2048 g.1.1.1.1.1.1.1.1.1.0.1.1.1.1.1.1.1.1.1.1.1.1.1.0.1.1.1.0.1.0.1

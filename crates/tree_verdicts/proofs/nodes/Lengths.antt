@@ -21,17 +21,17 @@ Told t = Is (row told.the_type) t (val told.the_type told.TheLaws.the_laws t ∷
 module _ (t : Tree) (g : Told t) where
   -- slots
   pub generation_long : length t.slots.generation ≡ 256
-  generation_long = length_unmapped ℕ t.slots.generation 256 g.1.1.0.1.1.0.1.0.1
+  generation_long = g.1.1.0.1.1.0.1.0.1
 
   pub free_long : length t.slots.free ≡ 256
-  free_long = length_unmapped ℕ t.slots.free 256 g.1.1.0.1.1.1.1.0.1.0.1
+  free_long = g.1.1.0.1.1.1.1.0.1.0.1
 
   -- links
   pub order_long : length t.links.order ≡ 256
-  order_long = length_unmapped ℕ t.links.order 256 g.1.1.1.0.1.1.0.1.0.1
+  order_long = g.1.1.1.0.1.1.0.1.0.1
 
   pub depth_long : length t.links.depth ≡ 256
-  depth_long = length_unmapped ℕ t.links.depth 256 g.1.1.1.0.1.1.1.0.1.0.1
+  depth_long = g.1.1.1.0.1.1.1.0.1.0.1
 
   -- locals
   pub bounds_long : length t.locals.bounds ≡ 1024
@@ -44,7 +44,7 @@ module _ (t : Tree) (g : Told t) where
   transform_long = length_unmapped Float t.locals.transform 1536 g.1.1.1.1.0.1.1.1.1.0.1.0.1
 
   pub kind_long : length t.locals.kind ≡ 256
-  kind_long = length_unmapped ℕ t.locals.kind 256 g.1.1.1.1.0.1.1.1.1.1.0.1.0.1
+  kind_long = g.1.1.1.1.0.1.1.1.1.1.0.1.0.1
 
   pub clip_long : length t.locals.clip ≡ 2048
   clip_long = length_unmapped Float t.locals.clip 2048 g.1.1.1.1.0.1.1.1.1.1.1.0.1.0.1
@@ -53,7 +53,7 @@ module _ (t : Tree) (g : Told t) where
   level_long = length_unmapped ℤ t.locals.level 256 g.1.1.1.1.0.1.1.1.1.1.1.1.0.1.0.1
 
   pub flags_long : length t.locals.flags ≡ 256
-  flags_long = length_unmapped ℕ t.locals.flags 256 g.1.1.1.1.0.1.1.1.1.1.1.1.1.0.1.0.1
+  flags_long = g.1.1.1.1.0.1.1.1.1.1.1.1.1.0.1.0.1
 
   -- worlds
   pub world_transform_long : length t.worlds.transform ≡ 1536
@@ -86,10 +86,10 @@ module _ (t : Tree) (g : Told t) where
   keys_committed_long = length_unmapped Bool t.keys.committed 256 g.1.1.1.1.1.1.1.0.1.1.0.1.0.1
 
   pub keys_slot_long : length t.keys.slot ≡ 256
-  keys_slot_long = length_unmapped ℕ t.keys.slot 256 g.1.1.1.1.1.1.1.0.1.1.1.0.1.0.1
+  keys_slot_long = g.1.1.1.1.1.1.1.0.1.1.1.0.1.0.1
 
   pub keys_generation_long : length t.keys.generation ≡ 256
-  keys_generation_long = length_unmapped ℕ t.keys.generation 256 g.1.1.1.1.1.1.1.0.1.1.1.1.0.1.0.1
+  keys_generation_long = g.1.1.1.1.1.1.1.0.1.1.1.1.0.1.0.1
 
   -- pending
   pub pending_long : length t.pending.rects ≡ 1024
@@ -97,28 +97,28 @@ module _ (t : Tree) (g : Told t) where
 
   -- index
   pub entries_generation_long : length t.index.generation ≡ 512
-  entries_generation_long = length_unmapped ℕ t.index.generation 512 g.1.1.1.1.1.1.1.1.1.0.1.1.0.1.0.1
+  entries_generation_long = g.1.1.1.1.1.1.1.1.1.0.1.1.0.1.0.1
 
   pub mark_long : length t.index.mark ≡ 512
-  mark_long = length_unmapped ℕ t.index.mark 512 g.1.1.1.1.1.1.1.1.1.0.1.1.1.0.1.0.1
+  mark_long = g.1.1.1.1.1.1.1.1.1.0.1.1.1.0.1.0.1
 
   pub entries_payload_long : length t.index.payload ≡ 1024
-  entries_payload_long = length_unmapped ℕ t.index.payload 1024 g.1.1.1.1.1.1.1.1.1.0.1.1.1.1.0.1.0.1
+  entries_payload_long = g.1.1.1.1.1.1.1.1.1.0.1.1.1.1.0.1.0.1
 
   pub entries_aabb_long : length t.index.aabb ≡ 2048
   entries_aabb_long = length_unmapped Float t.index.aabb 2048 g.1.1.1.1.1.1.1.1.1.0.1.1.1.1.1.0.1.0.1
 
   pub entries_kept_long : length t.index.kept ≡ 512
-  entries_kept_long = length_unmapped ℕ t.index.kept 512 g.1.1.1.1.1.1.1.1.1.0.1.1.1.1.1.1.0.1.0.1
+  entries_kept_long = g.1.1.1.1.1.1.1.1.1.0.1.1.1.1.1.1.0.1.0.1
 
   pub entries_prev_long : length t.index.prev ≡ 2048
   entries_prev_long = length_unmapped Float t.index.prev 2048 g.1.1.1.1.1.1.1.1.1.0.1.1.1.1.1.1.1.0.1.0.1
 
   pub entries_free_long : length t.index.free ≡ 512
-  entries_free_long = length_unmapped ℕ t.index.free 512 g.1.1.1.1.1.1.1.1.1.0.1.1.1.1.1.1.1.1.1.0.1.0.1
+  entries_free_long = g.1.1.1.1.1.1.1.1.1.0.1.1.1.1.1.1.1.1.1.0.1.0.1
 
   pub dirty_long : length t.index.dirty ≡ 512
-  dirty_long = length_unmapped ℕ t.index.dirty 512 g.1.1.1.1.1.1.1.1.1.0.1.1.1.1.1.1.1.1.1.1.1.0.1.0.1
+  dirty_long = g.1.1.1.1.1.1.1.1.1.0.1.1.1.1.1.1.1.1.1.1.1.0.1.0.1
 
   pub sized : Sized t
   sized = record { order = order_long; depth = depth_long; free = free_long; mark = mark_long; entries_free = entries_free_long; dirty = dirty_long }

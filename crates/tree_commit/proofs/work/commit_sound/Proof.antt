@@ -93,7 +93,7 @@ rework_all-r-requires c κs =
       W.links.order,
       W.links.depth,
       W.index.dirty,
-      omega (arith, S.requires.1, as_long D _ D.put-pending.ensures),
+      omega (arith, S.requires.1, as_long D _ D.put_pending.ensures),
       (t, (begun t).damage, pending_count S, positions_ready t _ _ _ E.0 E.1 W (sound_here S)),
     )
 
@@ -115,7 +115,7 @@ shape_of-room : tie.Need-shape_of-room
 shape_of-room c =
     let R = from_index c.before.before.before.before.before in
     let D = from_positions (from_rework R) in
-    R.rework-all.ensures.1.1 ∙ as_long D _ D.put-pending.ensures
+    R.rework_all.ensures.1.1 ∙ as_long D _ D.put_pending.ensures
 
 returns : tie.Need-returns
 returns c =
@@ -130,12 +130,12 @@ returns c =
     let t = S.args.t in
     let E = P.positions.ensures in
     let v = positions_are t _ _ _ E.0 E.1 in
-    let X = R.rework-all.ensures.0 t (begun t).damage in
+    let X = R.rework_all.ensures.0 t (begun t).damage in
     joined t _ _ _ _ _ _ _ _ _ _ _ S.args.room.now _ (sym (told N) ∙ not-false N.needs.result I.if1.left)
     (X.0 ∙ ap (λ (l : List ℕ). (rework_all (begun t) l).tree) v)
     ((X.1 (pending_count S)).0 ∙ ap (λ (l : List ℕ). length (rework_all (begun t) l).damage) v)
     C.commit_index-frees.ensures M.clear_marks.ensures
-    ((X.1 (pending_count S)).1 S.args.room.now D.put-pending.ensures ∙ ap (λ (l : List ℕ). rects_in_front (rework_all (begun t) l).damage S.args.room.now) v)
+    ((X.1 (pending_count S)).1 S.args.room.now D.put_pending.ensures ∙ ap (λ (l : List ℕ). rects_in_front (rework_all (begun t) l).damage S.args.room.now) v)
 
 pub commit_sound_spec : {M : Type 1} → statement M
 commit_sound_spec =

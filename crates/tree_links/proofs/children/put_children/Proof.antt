@@ -62,7 +62,7 @@ children-m-requires c κs =
     let p = from_end e in
     let s = from_position p in
     let z = sized s.args.t s.good.0 in
-    (omega (arith, e.segment-end.ensures.0), omega (arith, e.segment-end.ensures.1, (inside p).1), z.order, z.depth, refl)
+    (omega (arith, e.segment_end.ensures.0), omega (arith, e.segment_end.ensures.1, (inside p).1), z.order, z.depth, refl)
 
 put_ids-requires : tie.Need-put_ids-requires
 put_ids-requires c κs =
@@ -73,11 +73,11 @@ put_ids-requires c κs =
     let s = from_position p in
     let t = s.args.t in
     let g = sound_places t (sized t s.good.0) s.requires.0 in
-    let l = below_low t s.args.x p.position.result e.segment-end.result d.depth_at_lem.result p.position.ensures.1 e.segment-end.ensures.2 d.depth_at_lem.ensures t.links.count g.2 e.segment-end.ensures.1 in (
-      omega (arith, k.children.ensures.1.0, e.segment-end.ensures.1, (inside p).1),
+    let l = below_low t s.args.x p.position.result e.segment_end.result d.depth_at_lem.result p.position.ensures.1 e.segment_end.ensures.2 d.depth_at_lem.ensures t.links.count g.2 e.segment_end.ensures.1 in (
+      omega (arith, k.children.ensures.1.0, e.segment_end.ensures.1, (inside p).1),
       k.children.ensures.0.0,
       s.requires.2,
-      found_lows (below t s.args.x p.position.result e.segment-end.result d.depth_at_lem.result p.position.ensures.1 e.segment-end.ensures.2 d.depth_at_lem.ensures) _ k.children.result k.children.new.1.1.1.1.1.0 k.children.ensures.1.1 k.children.ensures.0.1 l,
+      found_lows (below t s.args.x p.position.result e.segment_end.result d.depth_at_lem.result p.position.ensures.1 e.segment_end.ensures.2 d.depth_at_lem.ensures) _ k.children.result k.children.new.1.1.1.1.1.0 k.children.ensures.1.1 k.children.ensures.0.1 l,
     )
 
 shape_of-room : tie.Need-shape_of-room
@@ -91,7 +91,7 @@ returns c =
     let e = from_depth d in
     let p = from_end e in
     let s = from_position p in
-    put_done s.args.t s.args.x p.position.result e.segment-end.result d.depth_at_lem.result p.position.ensures.1 e.segment-end.ensures.2 d.depth_at_lem.ensures s.args.room.now P.new.room k.children.new.1.1.1.1.1.0 _ k.children.result k.children.ensures.1.1 k.children.ensures.0.1 P.ensures
+    put_done s.args.t s.args.x p.position.result e.segment_end.result d.depth_at_lem.result p.position.ensures.1 e.segment_end.ensures.2 d.depth_at_lem.ensures s.args.room.now P.new.room k.children.new.1.1.1.1.1.0 _ k.children.result k.children.ensures.1.1 k.children.ensures.0.1 P.ensures
 
 pub put_children_spec : {M : Type 1} → statement M
 put_children_spec =

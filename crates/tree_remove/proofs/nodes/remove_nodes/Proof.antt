@@ -47,9 +47,9 @@ entry c =
       mark = A.mark.now;
       index_free = A.index_free.now;
       dirty = A.dirty.now;
-      f = A.slots-frees;
+      f = A.slots_frees;
       p = A.pending_count;
-      g = A.index-frees;
+      g = A.index_frees;
       q = A.queued;
     }
 
