@@ -35,7 +35,7 @@ unfolding times positions_from
 positions_in i a zero h k = absurd (omega arith)
 positions_in i a (suc n) h k =
     elim (ℕ_discrete i a) [
-      | yes e ↦ rw e (omega (arith, hit a, positions_before a (suc a) n (omega arith)))
+      | yes e ↦ subst (λ (j : ℕ). times j (positions_from a (suc n)) ≡ 1) (sym e) (omega (arith, hit a, positions_before a (suc a) n (omega arith)))
       | no m ↦ omega (arith, miss i a m, positions_in i (suc a) n (omega arith) (omega arith))
     ]
 
