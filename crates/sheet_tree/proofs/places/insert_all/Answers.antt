@@ -9,6 +9,7 @@ use Rattle.tree_types.specs.declared.LocalNode.{LocalNode}
 use Rattle.tree_types.specs.declared.OptionNodeId.{OptionNodeId}
 use Rattle.tree_state.specs.Lent as lent
 use Rattle.sheet_laws.specs.Built.{tree_up_to}
+use Rattle.sheet_tree.specs.stores.Places.{tree}
 use Rattle.sheet_tree.specs.places.Rows.{sheet_of}
 use Rattle.sheet_tree.proofs.places.Steps.{Accepted, few_places, few_clips, clips_ranged, place_accepted}
 use Rattle.sheet_tree.proofs.places.Tables.{start, made, fits, next}
@@ -78,12 +79,15 @@ loop-i-preserved c =
     let q = c.parent_in-parent in
     let k = c.clip_for-own in
     let v = c.local_of-local in
+    let W = c.insert_place.new in
     record {
       few = omega arith;
       so_far =
           next L.generation L.order L.depth (lent.locals L.bounds L.slop L.locals_transform L.kind L.locals_clip L.level L.flags)
           (lent.marks L.marked L.marks_transform L.marks_clip) A.places.now A.n A.clips.now A.m c.requires L.i c.loop-i-test.true L.invariant.so_far
-          q.result (parent A.places.now L.i p.result p.ensures q.result q.ensures) v.result _
+          q.result (parent A.places.now L.i p.result p.ensures q.result q.ensures) v.result
+          (tree W.generation (lent.links W.order W.depth (L.i + 1)) (lent.locals W.bounds W.slop W.locals_transform W.kind W.locals_clip W.level W.flags)
+          (lent.marks W.marked W.marks_transform W.marks_clip))
           (local A.places.now L.i p.result p.ensures A.clips.now A.m k.result v.result k.ensures v.ensures) c.insert_place.ensures;
     }
 
