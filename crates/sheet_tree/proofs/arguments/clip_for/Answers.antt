@@ -1,4 +1,4 @@
-use Rattle.std.proofs.Common.{◌≡◌, ◌+◌, ◌*◌, ◌<◌, ℕ, Bool, List, ℤ, pos, refl, sym, ap, ◌∙◌, arith, w64, SFits, to_z, of_z, to_z-of_z}
+use Rattle.std.proofs.Common.{◌≡◌, ℕ, Bool, List, ℤ, pos, sym, ap, ◌∙◌, arith, w64, SFits, to_z, of_z, to_z-of_z}
 use borrow.Author.Rules.{rules}
 use Rattle.sheet_format.specs.declared.ClipLine.{ClipLine}
 use Rattle.sheet_format.specs.Sheet.{clip_width, clip_of, clip_in_range, equal}

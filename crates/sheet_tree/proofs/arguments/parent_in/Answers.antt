@@ -9,5 +9,5 @@ pub parent_of-requires : goal.parent_of-requires
 parent_of-requires c = word_near c.args.p.parent c.requires.0 c.requires.1
 
 pub returns : goal.returns
-returns c = 
+returns c =
     c.parent_of.ensures ∙ ap (λ z. parent_at (nat_abs z)) (back c.args.p.parent (omega (arith, c.requires.1)))

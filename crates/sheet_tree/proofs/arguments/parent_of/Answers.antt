@@ -1,4 +1,4 @@
-use Rattle.std.proofs.Common.{◌≡◌, ◌∙◌, ap, nat_abs, arith}
+use Rattle.std.proofs.Common.{◌∙◌, ap, nat_abs, arith}
 use Rattle.sheet_records.proofs.values.Signed.{back, word_near}
 use Rattle.sheet_tree.proofs.arguments.Parents.{no_parent, some_parent}
 use Rattle.sheet_tree.proofs.arguments.parent_of.Goals as goal
