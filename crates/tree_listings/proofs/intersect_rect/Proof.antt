@@ -53,7 +53,7 @@ list-n-requires c κs =
     let e = c in
     let s = start e.before.before.before in
     let A = s.args in
-    let z = sized A.t s.good.0 in
+    let z = sized A.t s.well_formed.0 in
     let a = accepted A.t z A.filter.required_flags (length A.room.now) (yes e) in
     let u = sound_used A.t z a.whole.test in
     (carried A.t a.whole a.no_need, u.0, u.1, a.long)

@@ -35,13 +35,13 @@ start c = c.before.before
 node : (c : tie.In-Accepted) → Node (start c).args.t (start c).args.id
 node c =
     let Z = start c in
-    node_accepted Z.args.t (sized Z.args.t Z.good.0) Z.args.id (sym c.of_node-v.ensures ∙ c.in-Accepted.is)
+    node_accepted Z.args.t (sized Z.args.t Z.well_formed.0) Z.args.id (sym c.of_node-v.ensures ∙ c.in-Accepted.is)
 
 position-at-requires : tie.Need-position-at-requires
 position-at-requires c κs =
     let d = c in
     let Z = start d in
-    ((node d).whole.count_fits, order_long Z.args.t Z.good.0)
+    ((node d).whole.count_fits, order_long Z.args.t Z.well_formed.0)
 
 abbrev from_place : tie.After-position-at → tie.In-Accepted
 from_place c = c
@@ -56,7 +56,7 @@ segment_end-e-requires c κs =
     let p = c.before.before in
     let d = from_place p in
     let Z = start d in
-    (at_fits p, (node d).whole.count_fits, depth_long Z.args.t Z.good.0)
+    (at_fits p, (node d).whole.count_fits, depth_long Z.args.t Z.well_formed.0)
 
 abbrev from_end : tie.After-segment_end-e → tie.After-position-at
 from_end c = c.before.before.before
@@ -67,7 +67,7 @@ post_order-requires c κs =
     let d = from_place (from_end e) in
     let Z = start d in
     let E = e.segment_end-e.ensures in
-    (omega (arith, E.0), omega (arith, E.1, (node d).whole.count_fits), order_long Z.args.t Z.good.0, depth_long Z.args.t Z.good.0, refl)
+    (omega (arith, E.0), omega (arith, E.1, (node d).whole.count_fits), order_long Z.args.t Z.well_formed.0, depth_long Z.args.t Z.well_formed.0, refl)
 
 -- the way back from the list of what goes
 abbrev from_list : tie.After-post_order → tie.After-segment_end-e
@@ -88,9 +88,9 @@ remove_nodes-left-requires c κs =
     let A = Z.args in
     let E = e.segment_end in
     let P = p.position in (
-      few A.t Z.good.0 A.id (node d) P.result E.result P.ensures.1 E.ensures.2 E.ensures.0 E.ensures.1 _ _ g.post_order.ensures.1,
+      few A.t Z.well_formed.0 A.id (node d) P.result E.result P.ensures.1 E.ensures.2 E.ensures.0 E.ensures.1 _ _ g.post_order.ensures.1,
       g.post_order.ensures.0,
-      ready A.t Z.good.0 A.id (node d) P.result E.result P.ensures.1 E.ensures.2 E.ensures.0 E.ensures.1 _ _ g.post_order.ensures.1,
+      ready A.t Z.well_formed.0 A.id (node d) P.result E.result P.ensures.1 E.ensures.2 E.ensures.0 E.ensures.1 _ _ g.post_order.ensures.1,
     )
 
 abbrev from_nodes : tie.After-remove_nodes-left → tie.After-post_order
@@ -116,7 +116,7 @@ returns c =
     let T = n.remove_nodes-left.ensures in
     let k = d.before.before in
     accepted (of_node A.t A.id) k.of_node_lem.result (remove_tree A.t (position_of A.t A.id.0)) A.t k.of_node_lem.ensures _ d.enum_told.given.1
-    (done A.t Z.good.0 A.id (node d) P.result E.result P.ensures.1 E.ensures.2 E.ensures.0 E.ensures.1 _ _ g.post_order.ensures.1
+    (done A.t Z.well_formed.0 A.id (node d) P.result E.result P.ensures.1 E.ensures.2 E.ensures.0 E.ensures.1 _ _ g.post_order.ensures.1
     c.cut_tree-t.result _ R.slots_frees _ R.pending_count _ _ R.index_frees _ R.queued c.cut_tree-t.ensures T.0.0 T.0.1 T.1.0 T.1.1.0 T.1.1.1.0 T.1.1.1.1)
 
 pub remove_spec : {M : Type 1} → statement M

@@ -39,7 +39,7 @@ both : (c : tie.In-Accepted) → let A = (start (from_told c)).args in Node A.t 
 both c =
     let k = from_told c in
     let A = (start k).args in
-    live_both A.t A.id A.parent k.of_parent.result (start k).good.0 (first_is k) c.in-Accepted.is
+    live_both A.t A.id A.parent k.of_parent.result (start k).well_formed.0 (first_is k) c.in-Accepted.is
 
 enum_told-1 : tie.Need-enum_told-1
 enum_told-1 c = search rules
@@ -58,7 +58,7 @@ position-at-requires : tie.Need-position-at-requires
 position-at-requires c κs =
     let e = c in
     let Z = start (from_told e) in
-    ((both e).0.whole.count_fits, order_long Z.args.t Z.good.0)
+    ((both e).0.whole.count_fits, order_long Z.args.t Z.well_formed.0)
 
 -- ---- the node's position
 

@@ -69,7 +69,7 @@ bounds-visits-j : tie.Need-bounds-visits-j invariant-loop-j decreases-loop-j
 bounds-visits-j c = omega (arith, c.requires.0, c.loop-j.invariant.j_fits, c.loop-j-test.true)
 
 overflow_cast-at : tie.Need-overflow_cast-at invariant-loop-j decreases-loop-j
-overflow_cast-at c = omega (arith, place_low (turn c.before))
+overflow_cast-at c = omega (arith, place_low (turn c.before.before))
 
 rework_node-r-requires : tie.Need-rework_node-r-requires invariant-loop-j decreases-loop-j
 rework_node-r-requires c κs =
@@ -83,7 +83,7 @@ rework_node-r-requires c κs =
       P.3,
       L.invariant.whole,
       omega (arith, P.5, L.invariant.long),
-      (t, (done A.visits.now L.j (E S) t ds).damage, L.invariant.counted t ds P.6.2, turn c.before.before.before.before.before.before.before.before.before.before.before.before.before.before.before.before.before),
+      (t, (done A.visits.now L.j (E S.before) t ds).damage, L.invariant.counted t ds P.6.2, turn c.before.before.before.before.before.before.before.before.before.before.before.before.before.before.before.before.before.before),
     )
 
 overflow_add-j : tie.Need-overflow_add-j invariant-loop-j decreases-loop-j
@@ -98,7 +98,7 @@ loop-j-preserved c =
     let A = S.args in
     let L = c.loop-j in
     let R = c.rework_node-r.ensures in
-    next A.visits.now A.n (E S) (At c.before.before.before.before.before.before.before.before.before.before.before.before.before.before.before.before.before.before.before.before.before) L.dirty A.room.now L.room A.count L.m L.j S.requires.1 S.requires.0 L.invariant c.loop-j-test.true _ _ _ _ R.0 R.1.0 R.1.1
+    next A.visits.now A.n (E S.before) (At c.before.before.before.before.before.before.before.before.before.before.before.before.before.before.before.before.before.before.before.before.before.before) L.dirty A.room.now L.room A.count L.m L.j S.requires.1 S.requires.0 L.invariant c.loop-j-test.true _ _ _ _ R.0 R.1.0 R.1.1
 
 shape_of-room : tie.Need-shape_of-room invariant-loop-j decreases-loop-j
 shape_of-room c = c.loop-j.invariant.long

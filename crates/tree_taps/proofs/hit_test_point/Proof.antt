@@ -53,7 +53,7 @@ took : (c : tie.In_default) → let A = (start c.before.before).args in Accepted
 took c =
     let s = start c.before.before in
     let A = s.args in
-    accepted A.t (sized A.t s.good.0) A.filter.required_flags (length A.room.now) (yes c)
+    accepted A.t (sized A.t s.well_formed.0) A.filter.required_flags (length A.room.now) (yes c)
 
 -- before the tables are lent to the search
 abbrev from : tie.After-strongest-best → tie.In_default
@@ -63,7 +63,7 @@ strongest-best-requires : tie.Need-strongest-best-requires
 strongest-best-requires c κs =
     let e = c in
     let s = start e.before.before.before in
-    tappable s.args.t (sized s.args.t s.good.0) (took e).whole (took e).no_need
+    tappable s.args.t (sized s.args.t s.well_formed.0) (took e).whole (took e).no_need
 
 -- the answer, on the tree itself
 told : (c : tie.After-strongest-best) → let A = (start (from c).before.before.before).args in best_of c.strongest-best.result ≡ hit_node A.t A.filter.required_flags A.point
@@ -88,7 +88,7 @@ position-at-requires : tie.Need-position-at-requires
 position-at-requires c κs =
     let e = from c.before.before.before in
     let s = start e.before.before.before in
-    let p = sound_places s.args.t (sized s.args.t s.good.0) (took e).whole.test in
+    let p = sound_places s.args.t (sized s.args.t s.well_formed.0) (took e).whole.test in
     (p.0, p.1)
 
 id_of-own-requires : tie.Need-id_of-own-requires
@@ -99,7 +99,7 @@ write_path-deep-requires c κs =
     let y = c.before.before.before.before.before.before.before.before.before.before.before in
     let e = from y.before in
     let s = start e.before.before.before in
-    let z = sized s.args.t s.good.0 in
+    let z = sized s.args.t s.well_formed.0 in
     let p = sound_places s.args.t z (took e).whole.test in
     let at = c.position-at.ensures.1 in
     (omega (arith, at, (shown y).1), p.0, omega (arith, (shown y).0), p.1, z.depth, (took e).whole.depths, p.2, (took e).long)

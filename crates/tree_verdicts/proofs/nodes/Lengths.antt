@@ -6,17 +6,17 @@ use Prim.Native.Nat.{ℕ}
 use lib.ListN.{length}
 use lib.IntN.{ℤ}
 use lib.Ieee.{Float}
-use borrow.Author.Rules.{length_unmapped}
 use denote.Laws.{Is}
 use denote.Struct.Declared.{row}
 use denote.Struct.Laws.{val}
 use Rattle.tree_state.specs.declared.Tree.{Tree}
+use Rattle.tree_state.specs.contracts.Tree as shown
 use Rattle.tree_state.proofs.Tree as told
 use Rattle.tree_sound.specs.Parts.{Sized}
 
 -- what a function is told of a tree that it is handed
 abbrev pub Told : Tree → Type 0
-Told t = Is (row told.the_type) t (val told.the_type told.TheLaws.the_laws t ∷ [])
+Told t = Is (row shown.the_type) t (val shown.the_type told.TheLaws.the_laws t ∷ [])
 
 module _ (t : Tree) (g : Told t) where
   -- slots
@@ -35,55 +35,55 @@ module _ (t : Tree) (g : Told t) where
 
   -- locals
   pub bounds_long : length t.locals.bounds ≡ 1024
-  bounds_long = length_unmapped Float t.locals.bounds 1024 g.1.1.1.1.0.1.1.0.1.0.1
+  bounds_long = g.1.1.1.1.0.1.1.0.1.0.1
 
   pub slop_long : length t.locals.slop ≡ 1024
-  slop_long = length_unmapped Float t.locals.slop 1024 g.1.1.1.1.0.1.1.1.0.1.0.1
+  slop_long = g.1.1.1.1.0.1.1.1.0.1.0.1
 
   pub transform_long : length t.locals.transform ≡ 1536
-  transform_long = length_unmapped Float t.locals.transform 1536 g.1.1.1.1.0.1.1.1.1.0.1.0.1
+  transform_long = g.1.1.1.1.0.1.1.1.1.0.1.0.1
 
   pub kind_long : length t.locals.kind ≡ 256
   kind_long = g.1.1.1.1.0.1.1.1.1.1.0.1.0.1
 
   pub clip_long : length t.locals.clip ≡ 2048
-  clip_long = length_unmapped Float t.locals.clip 2048 g.1.1.1.1.0.1.1.1.1.1.1.0.1.0.1
+  clip_long = g.1.1.1.1.0.1.1.1.1.1.1.0.1.0.1
 
   pub level_long : length t.locals.level ≡ 256
-  level_long = length_unmapped ℤ t.locals.level 256 g.1.1.1.1.0.1.1.1.1.1.1.1.0.1.0.1
+  level_long = g.1.1.1.1.0.1.1.1.1.1.1.1.0.1.0.1
 
   pub flags_long : length t.locals.flags ≡ 256
   flags_long = g.1.1.1.1.0.1.1.1.1.1.1.1.1.0.1.0.1
 
   -- worlds
   pub world_transform_long : length t.worlds.transform ≡ 1536
-  world_transform_long = length_unmapped Float t.worlds.transform 1536 g.1.1.1.1.1.0.1.1.0.1.0.1
+  world_transform_long = g.1.1.1.1.1.0.1.1.0.1.0.1
 
   pub world_clipped_long : length t.worlds.clipped ≡ 256
-  world_clipped_long = length_unmapped Bool t.worlds.clipped 256 g.1.1.1.1.1.0.1.1.1.0.1.0.1
+  world_clipped_long = g.1.1.1.1.1.0.1.1.1.0.1.0.1
 
   pub world_clip_long : length t.worlds.clip ≡ 1024
-  world_clip_long = length_unmapped Float t.worlds.clip 1024 g.1.1.1.1.1.0.1.1.1.1.0.1.0.1
+  world_clip_long = g.1.1.1.1.1.0.1.1.1.1.0.1.0.1
 
   pub world_bounds_long : length t.worlds.bounds ≡ 1024
-  world_bounds_long = length_unmapped Float t.worlds.bounds 1024 g.1.1.1.1.1.0.1.1.1.1.1.0.1.0.1
+  world_bounds_long = g.1.1.1.1.1.0.1.1.1.1.1.0.1.0.1
 
   pub world_hit_bounds_long : length t.worlds.hit_bounds ≡ 1024
-  world_hit_bounds_long = length_unmapped Float t.worlds.hit_bounds 1024 g.1.1.1.1.1.0.1.1.1.1.1.1.0.1.0.1
+  world_hit_bounds_long = g.1.1.1.1.1.0.1.1.1.1.1.1.0.1.0.1
 
   -- marks
   pub marked_long : length t.marks.marked ≡ 256
-  marked_long = length_unmapped Bool t.marks.marked 256 g.1.1.1.1.1.1.0.1.1.0.1.0.1
+  marked_long = g.1.1.1.1.1.1.0.1.1.0.1.0.1
 
   pub marks_transform_long : length t.marks.transform ≡ 256
-  marks_transform_long = length_unmapped Bool t.marks.transform 256 g.1.1.1.1.1.1.0.1.1.1.0.1.0.1
+  marks_transform_long = g.1.1.1.1.1.1.0.1.1.1.0.1.0.1
 
   pub marks_clip_long : length t.marks.clip ≡ 256
-  marks_clip_long = length_unmapped Bool t.marks.clip 256 g.1.1.1.1.1.1.0.1.1.1.1.0.1.0.1
+  marks_clip_long = g.1.1.1.1.1.1.0.1.1.1.1.0.1.0.1
 
   -- keys
   pub keys_committed_long : length t.keys.committed ≡ 256
-  keys_committed_long = length_unmapped Bool t.keys.committed 256 g.1.1.1.1.1.1.1.0.1.1.0.1.0.1
+  keys_committed_long = g.1.1.1.1.1.1.1.0.1.1.0.1.0.1
 
   pub keys_slot_long : length t.keys.slot ≡ 256
   keys_slot_long = g.1.1.1.1.1.1.1.0.1.1.1.0.1.0.1
@@ -93,7 +93,7 @@ module _ (t : Tree) (g : Told t) where
 
   -- pending
   pub pending_long : length t.pending.rects ≡ 1024
-  pending_long = length_unmapped Float t.pending.rects 1024 g.1.1.1.1.1.1.1.1.0.1.1.0.1.0.1
+  pending_long = g.1.1.1.1.1.1.1.1.0.1.1.0.1.0.1
 
   -- index
   pub entries_generation_long : length t.index.generation ≡ 512
@@ -106,13 +106,13 @@ module _ (t : Tree) (g : Told t) where
   entries_payload_long = g.1.1.1.1.1.1.1.1.1.0.1.1.1.1.0.1.0.1
 
   pub entries_aabb_long : length t.index.aabb ≡ 2048
-  entries_aabb_long = length_unmapped Float t.index.aabb 2048 g.1.1.1.1.1.1.1.1.1.0.1.1.1.1.1.0.1.0.1
+  entries_aabb_long = g.1.1.1.1.1.1.1.1.1.0.1.1.1.1.1.0.1.0.1
 
   pub entries_kept_long : length t.index.kept ≡ 512
   entries_kept_long = g.1.1.1.1.1.1.1.1.1.0.1.1.1.1.1.1.0.1.0.1
 
   pub entries_prev_long : length t.index.prev ≡ 2048
-  entries_prev_long = length_unmapped Float t.index.prev 2048 g.1.1.1.1.1.1.1.1.1.0.1.1.1.1.1.1.1.0.1.0.1
+  entries_prev_long = g.1.1.1.1.1.1.1.1.1.0.1.1.1.1.1.1.1.0.1.0.1
 
   pub entries_free_long : length t.index.free ≡ 512
   entries_free_long = g.1.1.1.1.1.1.1.1.1.0.1.1.1.1.1.1.1.1.1.0.1.0.1

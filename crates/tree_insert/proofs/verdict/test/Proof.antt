@@ -31,7 +31,7 @@ of_parent-linked-requires : tie.Need-of_parent-linked-requires
 of_parent-linked-requires c κs =
     let k = c.before.before.before in
     let s = start k.before in
-    let l = sized s.args.t s.good.0 in
+    let l = sized s.args.t s.well_formed.0 in
     λ e. live_needs s.args.t l (held_accepted s.args.t l (sym (told k) ∙ e))
 
 is_finite-requires : tie.Need-is_finite-requires
@@ -56,7 +56,7 @@ returns c =
     let p = f.before.before in
     let h = p.before.before.before.before in
     let A = (start h.before).args in
-    rw (c.check.ensures, k.check-known.ensures, k.is_Known.ensures, f.check-finite.ensures, f.is_finite.ensures, p.of_parent-linked.ensures, told h, parent_in_lem A.t A.parent)
+    rw (c.check.ensures, k.check-known.ensures, k.is_known.ensures, f.check-finite.ensures, f.is_finite.ensures, p.of_parent-linked.ensures, told h, parent_in_lem A.t A.parent)
 
 pub test_spec : {M : Type 1} → statement M
 test_spec =

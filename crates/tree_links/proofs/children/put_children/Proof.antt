@@ -34,14 +34,14 @@ inside : (c : tie.After-position-at) → let s = from_position c in (c.position-
 inside c =
     let s = from_position c in
     let t = s.args.t in
-    let z = sized t s.good.0 in
+    let z = sized t s.well_formed.0 in
     (omega (arith, c.position-at.ensures.1, place_in t z s.requires.0 s.args.x s.requires.1), (find_needs t z s.requires.0 s.args.x s.requires.1).0)
 
 segment_end-e-requires : tie.Need-segment_end-e-requires
 segment_end-e-requires c κs =
     let p = c.before.before in
     let s = from_position p in
-    ((inside p).0, (inside p).1, (sized s.args.t s.good.0).depth)
+    ((inside p).0, (inside p).1, (sized s.args.t s.well_formed.0).depth)
 
 depth_at-d-requires : tie.Need-depth_at-d-requires
 depth_at-d-requires c κs = let p = from_end c.before.before in omega (arith, inside p)
@@ -53,7 +53,7 @@ overflow_add-d c =
     let s = from_position p in
     let t = s.args.t in
     let h : d.depth_at-d.result ≤ 256 =
-    rw (d.depth_at-d.ensures, p.position.ensures.1) (depth_low t (sized t s.good.0) s.requires.0 s.args.x s.requires.1) in
+    rw (d.depth_at-d.ensures, p.position.ensures.1) (depth_low t (sized t s.well_formed.0) s.requires.0 s.args.x s.requires.1) in
     search rules
 
 children-m-requires : tie.Need-children-m-requires
@@ -61,7 +61,7 @@ children-m-requires c κs =
     let e = from_depth c.before.before.before.before in
     let p = from_end e in
     let s = from_position p in
-    let z = sized s.args.t s.good.0 in
+    let z = sized s.args.t s.well_formed.0 in
     (omega (arith, e.segment_end.ensures.0), omega (arith, e.segment_end.ensures.1, (inside p).1), z.order, z.depth, refl)
 
 put_ids-requires : tie.Need-put_ids-requires
@@ -72,7 +72,7 @@ put_ids-requires c κs =
     let p = from_end e in
     let s = from_position p in
     let t = s.args.t in
-    let g = sound_places t (sized t s.good.0) s.requires.0 in
+    let g = sound_places t (sized t s.well_formed.0) s.requires.0 in
     let l = below_low t s.args.x p.position.result e.segment_end.result d.depth_at_lem.result p.position.ensures.1 e.segment_end.ensures.2 d.depth_at_lem.ensures t.links.count g.2 e.segment_end.ensures.1 in (
       omega (arith, k.children.ensures.1.0, e.segment_end.ensures.1, (inside p).1),
       k.children.ensures.0.0,

@@ -20,9 +20,9 @@ verdict c = flags_verdict (start c).args.t (start c).args.id (start c).args.flag
 tested : (c : tie.After-check-v) → c.check-v.result ≡ verdict c
 tested c =
     let A = (start c).args in
-    tested_all (of_node A.t A.id) c.of_node-node.result c.check-v.result (known A.flags) c.is_Known.result no.UnknownFlags
+    tested_all (of_node A.t A.id) c.of_node-node.result c.check-v.result (known A.flags) c.is_known.result no.UnknownFlags
     c.of_node-node.ensures
-    c.is_Known.ensures
+    c.is_known.ensures
     c.check-v.ensures
 
 low : (c : tie.In-Accepted) → (start c.before).args.id.0 < 256

@@ -47,7 +47,7 @@ is_live-live-requires c κs =
     let e = c in
     let h = e.before.before in
     let s = start h in
-    let l = sized s.args.t s.good.0 in
+    let l = sized s.args.t s.well_formed.0 in
     live_needs s.args.t l (held_accepted s.args.t l (sym (told h) ∙ e.in-Accepted.is))
 
 check-node-requires : tie.Need-check-node-requires

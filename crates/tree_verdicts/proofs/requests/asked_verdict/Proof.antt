@@ -91,7 +91,7 @@ unfolding needs_commit
 returns c =
     λ t.
     let h = c.before.before.before.before.before in
-    rw (c.check.ensures, c.needs-need.ensures, c.check-known.ensures, c.is_Known.ensures, ← told h t)
+    rw (c.check.ensures, c.needs-need.ensures, c.check-known.ensures, c.is_known.ensures, ← told h t)
 
 pub asked_verdict_spec : {M : Type 1} → statement M
 asked_verdict_spec =
