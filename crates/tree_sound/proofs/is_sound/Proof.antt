@@ -1,6 +1,5 @@
 -- `tree_sound::is_sound` lends its tables to the test. Assumes nothing.
 use mathlib.Core.Path.{◌≡◌}
-use Prim.Native.Nat.{ℕ}
 use lib.ListN.{length}
 use borrow.Author.Rules.{rules}
 use Rattle.tree_sound.proofs.is_sound.Statement.{statement}

@@ -1,8 +1,6 @@
 -- All lengths of a tree that a function is handed.
 use mathlib.Core.Path.{◌≡◌}
-use Prim.Native.Nat.{ℕ}
 use lib.ListN.{length}
-use lib.Ieee.{Float}
 use Rattle.tree_state.specs.declared.Tree.{Tree}
 use Rattle.tree_verdicts.proofs.nodes.Lengths as long
 use Rattle.tree_verdicts.proofs.nodes.Lengths.{Told}

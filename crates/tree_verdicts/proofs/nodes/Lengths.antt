@@ -1,11 +1,7 @@
 -- The lengths of a tree's tables, from what a function is told of a parameter of the type: where `t` is the first, `sized t c.good.0`.
 use mathlib.Core.Path.{◌≡◌}
-use mathlib.Core.Bool.{Bool}
 use mathlib.Core.List.{[], ◌∷◌}
-use Prim.Native.Nat.{ℕ}
 use lib.ListN.{length}
-use lib.IntN.{ℤ}
-use lib.Ieee.{Float}
 use denote.Laws.{Is}
 use denote.Struct.Declared.{row}
 use denote.Struct.Laws.{val}

@@ -6,7 +6,6 @@ use Prim.Native.Nat.{ℕ}
 use Rattle.index_state.proofs.Soundness.{queue_length}
 use Rattle.tree_rework.specs.entries.Enter.{key}
 use borrow.Author.Rules.{rules}
-use borrow.Author.Tests.{not-true, not-false}
 use Rattle.index_state.specs.declared.FlatVec.{FlatVec}
 use Rattle.index_state.specs.declared.Index.{Index}
 use Rattle.tree_state.specs.declared.Keys.{Keys}

@@ -2,7 +2,6 @@
 use mathlib.Core.Path.{◌≡◌, sym, ◌∙◌, ap}
 use mathlib.Core.Bool.{false, not}
 use lib.ListN.{length}
-use borrow.Author.Tests.{not-false}
 use borrow.Author.Rules.{rules}
 use Rattle.index_state.proofs.Calls.{unsound, commit_short, commit_long, refuses, long, rooms_stay, rooms_done, commit_done}
 use Rattle.index_state.specs.Index.{sound_index, work_of}

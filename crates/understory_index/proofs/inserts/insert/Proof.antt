@@ -3,7 +3,7 @@ use mathlib.Core.Path.{◌≡◌, sym, ◌∙◌, ap}
 use Prim.Native.Nat.{◌<◌}
 use mathlib.Core.Bool.{false, not}
 use lib.ListN.{length}
-use borrow.Author.Tests.{eq-eqb, leb-false, not-false}
+use borrow.Author.Tests.{eq-eqb, leb-false}
 use borrow.Author.Rules.{rules}
 use Rattle.index_state.proofs.Calls.{unsound, insert_full, refuses, insert_done}
 use Rattle.index_state.specs.Index.{sound_index}
