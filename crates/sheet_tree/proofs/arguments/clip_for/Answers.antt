@@ -1,7 +1,7 @@
 use Rattle.std.proofs.Common.{◌≡◌, ℕ, Bool, List, ℤ, pos, sym, ap, ◌∙◌, arith, w64, SFits, to_z, of_z, to_z-of_z}
 use borrow.Author.Rules.{rules}
 use Rattle.sheet_format.specs.declared.ClipLine.{ClipLine}
-use Rattle.sheet_format.specs.Sheet.{clip_width, clip_of, clip_in_range, equal}
+use Rattle.sheet_format.specs.Sheet.{clip_width, clip_of, equal}
 use Rattle.sheet_format.specs.Told.{row_at}
 use Rattle.sheet_calls.specs.Calls.{clip_on}
 use Rattle.sheet_laws.proofs.Tables.{none_left, this_one, not_this}
@@ -11,9 +11,6 @@ use Rattle.sheet_tree.proofs.arguments.clip_for.Goals as goal
 told : (clips : List ℤ) (k i : ℕ) (b : Bool) (l : ClipLine) → SFits w64 l.place → l ≡ clip_of (row_at clip_width i clips)
     → b ≡ equal (to_z w64 (of_z w64 l.place)) (pos k) → equal (clip_of (row_at clip_width i clips)).place (pos k) ≡ b
 told clips k i b l f h e = sym (e ∙ ap (λ (z : ℤ). equal z (pos k)) (to_z-of_z f) ∙ ap (λ (l : ClipLine). equal l.place (pos k)) h)
-
-pub clip_on-requires : goal.clip_on-requires
-clip_on-requires c = ap clip_in_range c.clip_at-c.ensures ∙ c.requires.2 c.loop-i.i c.loop-i-test.true
 
 pub returns-then-is_place : goal.returns-then-is_place
 returns-then-is_place c =
