@@ -7,9 +7,6 @@ use Rattle.sheet_answers.proofs.text.Digits.{then_stored, room_kept}
 use Rattle.sheet_answers.proofs.Lines.{short_count}
 use Rattle.sheet_answers.proofs.put_sheet.Goals as goal
 
-pub put_line-first-requires : goal.put_line-first-requires
-put_line-first-requires c = (omega (arith, c.requires.0), omega (arith, c.requires.2))
-
 pub put_taps-requires : goal.put_taps-requires
 put_taps-requires c =
     let S = c.put_line-first.ensures in

@@ -51,18 +51,6 @@ loop-i-init c =
       stored = subst (λ (l : List ℕ). Stored A.room.now A.room.now A.at A.at l) (sym e) (nothing_stored A.room.now A.at);
     }
 
-pub asked_of-asked-requires : goal.asked_of-asked-requires
-asked_of-asked-requires c =
-    let A = c.args in
-    let p = c.tap_at-p in
-    (ready A.t (sized A.t c.well_formed.0) A.taps.now A.n c.loop-i.i c.requires.1 c.loop-i-test.true p.result p.ensures).ranged
-
-pub point_of-point-requires : goal.point_of-point-requires
-point_of-point-requires c =
-    let A = c.args in
-    let p = c.tap_at-p in
-    (ready A.t (sized A.t c.well_formed.0) A.taps.now A.n c.loop-i.i c.requires.1 c.loop-i-test.true p.result p.ensures).ranged
-
 pub strongest-best-requires : goal.strongest-best-requires
 strongest-best-requires c =
     let A = c.args in

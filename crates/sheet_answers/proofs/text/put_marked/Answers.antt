@@ -3,9 +3,6 @@ use Rattle.sheet_calls.specs.Answers.{decimal}
 use Rattle.sheet_answers.proofs.text.Digits.{byte_stored, then_stored, room_kept, short}
 use Rattle.sheet_answers.proofs.text.put_marked.Goals as goal
 
-pub put_number-next-requires : goal.put_number-next-requires
-put_number-next-requires c = (c.requires.0, omega (arith, c.requires.1))
-
 -- the number stands in the room, and a place is left behind it
 pub bounds-room-next : goal.bounds-room-next
 bounds-room-next c =

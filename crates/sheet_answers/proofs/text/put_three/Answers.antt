@@ -4,9 +4,6 @@ use Rattle.sheet_answers.specs.text.Text.{marked}
 use Rattle.sheet_answers.proofs.text.Digits.{then_stored, text_same, room_kept, short, line_more}
 use Rattle.sheet_answers.proofs.text.put_three.Goals as goal
 
-pub put_marked-second-requires : goal.put_marked-second-requires
-put_marked-second-requires c = (c.requires.0, omega (arith, c.requires.3))
-
 pub put_pair-requires : goal.put_pair-requires
 put_pair-requires c =
     let n = c.args.n in
