@@ -1,4 +1,5 @@
 // The text that a sheet's bytes are answered with, in lent room.
+#![tactic(auto)]
 
 // The line of a refused sheet.
 pub mod refusal_lines;

@@ -96,9 +96,6 @@ module _ (t : List ℤ) (n i : ℕ) (k : ℤ) where
   pub not_this : (b : Bool) → i < n → b ≡ equal k (get_or t (i * clip_width) (pos 0)) → b ≡ false → clipped_from t n (i + 1) k ≡ clipped_from t n i k
   not_this b h e p = rw (one h, ← e, p)
 
-pub from_first : (t : List ℤ) (n : ℕ) (k : ℤ) → clipped_from t n 0 k ≡ clipped_before (rows_of clip_width n t) k
-from_first t n k = let e : n - 0 ≡ n = omega arith in rw e
-
 -- ---- a row, and its numbers
 
 -- a row of the rows that are read

@@ -1,4 +1,6 @@
 // The plan sheet (document 01): its lines, and what reading one gives.
+#![tactic(auto)]
+
 ghost use Rattle.std.specs.Prelude.{◌≡◌};
 ghost use Rattle.sheet_format.specs.Sheet as spec;
 

@@ -1,4 +1,5 @@
 // The sheet reader: one thing that holds the bytes and its place in them, and what it reads there by line, by section and whole.
+#![tactic(auto)]
 
 // The end of a sheet: its taps, and what is behind them.
 pub mod end;
@@ -48,10 +49,11 @@ pub fn line<'a>(r: Reader<'a>, width: usize) -> ReadLine<'a>
     ensures { (told_read width result ≡ first_fields width (ahead r.entry)) × (result.reader ≡ moved r.entry) }
 {
     let f = sheet_lines::fields_at(r.src, r.at, width);
+    let row = f.row;
     let at = f.next;
     ReadLine {
         good: f.good,
-        row: f.row,
+        row,
         reader: Reader { src: r.src, at },
     }
 }

@@ -1,4 +1,5 @@
 // What the tree is handed of a sheet's lines: the local record of a place, the clip of a clip's line, the point and the flags of a tap.
+#![tactic(auto)]
 
 // The clip of a clip's line.
 pub mod clips;

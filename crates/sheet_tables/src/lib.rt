@@ -1,4 +1,5 @@
 // The rows of the tables that a sheet is read into: a place, a clip or a tap, by its number.
+#![tactic(auto)]
 
 // The rows of the clips.
 pub mod clips;

@@ -1,4 +1,6 @@
 // The tree of a sheet: its inserts, then one commit. Nothing that reading has tested is tested again: every call of a good sheet is accepted.
+#![tactic(auto)]
+
 pub mod arguments;
 pub mod places;
 pub mod stores;

@@ -67,19 +67,19 @@ module _ (most line at : ℕ) (s : List ℕ) (m : most ≤ most_lines) (f : Line
     ranged : within (pos 0) (pos most) (column (take 1 f.row) 0) ≡ r
     ranged = in_range_row (kind.Count most) f.row ∙ sym e
 
-    pub count_22 : not r ≡ true → stopped 22 line ≡ section (count_rule most) 1 [] line (drop at s)
-    count_22 x = sym (stop_22 (count_rule most) [] B (omega arith) 0 line (drop at s) (take 1 f.row) (drop f.next s) numbers_read (ranged ∙ not-true r x))
+    pub count_22 : r ≡ false → stopped 22 line ≡ section (count_rule most) 1 [] line (drop at s)
+    count_22 x = sym (stop_22 (count_rule most) [] B (omega arith) 0 line (drop at s) (take 1 f.row) (drop f.next s) numbers_read (ranged ∙ x))
 
-    pub in_bounds : not r ≡ false → within (pos 0) (pos most) (get_or f.row 0 (pos 0)) ≡ true
-    in_bounds x = sym e ∙ not-false r x
+    pub in_bounds : r ≡ true → within (pos 0) (pos most) (get_or f.row 0 (pos 0)) ≡ true
+    in_bounds x = sym e ∙ x
 
-    pub count_read : not r ≡ false → length f.row ≡ line_width → ended ((pos (nat_abs (get_or f.row 0 (pos 0))) ∷ []) ∷ []) (drop f.next s) ≡ section (count_rule most) 1 [] line (drop at s)
+    pub count_read : r ≡ true → length f.row ≡ line_width → ended ((pos (nat_abs (get_or f.row 0 (pos 0))) ∷ []) ∷ []) (drop f.next s) ≡ section (count_rule most) 1 [] line (drop at s)
     unfolding section
     count_read x l =
         let z = get_or f.row 0 (pos 0) in
         ap (λ y. ended ((y ∷ []) ∷ []) (drop f.next s)) (itself most z (in_bounds x))
         ∙ ap (λ zs. ended (zs ∷ []) (drop f.next s)) (sym (one_number f.row l))
-        ∙ sym (pass (count_rule most) [] B (omega arith) 0 line (drop at s) (take 1 f.row) (drop f.next s) numbers_read (ranged ∙ not-false r x) refl)
+        ∙ sym (pass (count_rule most) [] B (omega arith) 0 line (drop at s) (take 1 f.row) (drop f.next s) numbers_read (ranged ∙ x) refl)
 
 -- ---- the section that is counted
 

@@ -88,22 +88,22 @@ module _ (k : Kind) (n line from : ℕ) (s : List ℕ) (table₀ table : List �
       ranged : (rule_of k).in_range (take (rule_of k).width f.row) ≡ r
       ranged = in_range_row k f.row ∙ sym e
 
-      pub turn_22 : not r ≡ true → stopped 22 (line + i) ≡ section (rule_of k) n [] line (drop from s)
+      pub turn_22 : r ≡ false → stopped 22 (line + i) ≡ section (rule_of k) n [] line (drop from s)
       turn_22 x =
-          sym (stop_22 (rule_of k) (rows_of (rule_of k).width i table) B (narrow k) (n - (i + 1)) (line + i) (drop at s) (take (rule_of k).width f.row) (drop f.next s) numbers_read (ranged ∙ not-true r x))
+          sym (stop_22 (rule_of k) (rows_of (rule_of k).width i table) B (narrow k) (n - (i + 1)) (line + i) (drop at s) (take (rule_of k).width f.row) (drop f.next s) numbers_read (ranged ∙ x))
           ∙ here
 
-      module _ (x : not r ≡ false) (t : Bool) (d : t ≡ (rule_of k).fitting (rows_of (rule_of k).width i table) f.row) where
+      module _ (x : r ≡ true) (t : Bool) (d : t ≡ (rule_of k).fitting (rows_of (rule_of k).width i table) f.row) where
         fitted : (rule_of k).fitting (rows_of (rule_of k).width i table) (take (rule_of k).width f.row) ≡ t
         fitted = fitting_row k (rows_of (rule_of k).width i table) f.row ∙ sym d
 
-        pub turn_23 : not t ≡ true → stopped 23 (line + i) ≡ section (rule_of k) n [] line (drop from s)
+        pub turn_23 : t ≡ false → stopped 23 (line + i) ≡ section (rule_of k) n [] line (drop from s)
         turn_23 y =
-            sym (stop_23 (rule_of k) (rows_of (rule_of k).width i table) B (narrow k) (n - (i + 1)) (line + i) (drop at s) (take (rule_of k).width f.row) (drop f.next s) numbers_read (ranged ∙ not-false r x)
-            (fitted ∙ not-true t y))
+            sym (stop_23 (rule_of k) (rows_of (rule_of k).width i table) B (narrow k) (n - (i + 1)) (line + i) (drop at s) (take (rule_of k).width f.row) (drop f.next s) numbers_read (ranged ∙ x)
+            (fitted ∙ y))
             ∙ here
 
-        pub turn : (table' : List ℤ) → not t ≡ false → length f.row ≡ line_width → table' ≡ paste table (i * w) f.row w → Inv k n line from s table₀ table' f.next (i + 1)
+        pub turn : (table' : List ℤ) → t ≡ true → length f.row ≡ line_width → table' ≡ paste table (i * w) f.row w → Inv k n line from s table₀ table' f.next (i + 1)
         turn table' y l p =
             let p' : table' ≡ paste table (i * (rule_of k).width) f.row (rule_of k).width = rw q at p in
             let a : n * (rule_of k).width ≤ length table = omega (arith, I.long) in
@@ -117,7 +117,7 @@ module _ (k : Kind) (n line from : ℕ) (s : List ℕ) (table₀ table : List �
                   ap (λ u. section (rule_of k) (n - (i + 1)) u (line + (i + 1)) (drop f.next s))
                   (ap (rows_of (rule_of k).width (i + 1)) p' ∙ rw add-one (stored (rule_of k).width i table f.row b c))
                   ∙ ap (λ u. section (rule_of k) (n - (i + 1)) (rows_of (rule_of k).width i table ++ take (rule_of k).width f.row ∷ []) u (drop f.next s)) z
-                  ∙ sym (pass (rule_of k) (rows_of (rule_of k).width i table) B (narrow k) (n - (i + 1)) (line + i) (drop at s) (take (rule_of k).width f.row) (drop f.next s) numbers_read (ranged ∙ not-false r x)
-                  (fitted ∙ not-false t y))
+                  ∙ sym (pass (rule_of k) (rows_of (rule_of k).width i table) B (narrow k) (n - (i + 1)) (line + i) (drop at s) (take (rule_of k).width f.row) (drop f.next s) numbers_read (ranged ∙ x)
+                  (fitted ∙ y))
                   ∙ here;
             }

@@ -1,8 +1,6 @@
 -- Small signed numbers: what a local holds of one reads back as it is.
-use Rattle.std.proofs.Common.{◌≡◌, ℕ, ◌≤◌, T, ℤ, pos, negsuc, ◌-ℤ◌, neg_ℤ, nat_abs, sym, subst, arith, to_z-of_z, w8, w32, w64, Fits, SFits, to_z, of_z}
-use lib.IntN.{+ℤ_idl}
+use Rattle.std.proofs.Common.{◌≡◌, ℕ, ◌≤◌, T, ℤ, pos, negsuc, nat_abs, sym, subst, arith, to_z-of_z, w32, w64, Fits, SFits, to_z, of_z}
 use lib.Signed.{mag, non_neg}
-use Rattle.sheet_calls.proofs.Finite.{abs_neg}
 
 mag_abs : (z : ℤ) → mag z ≤ nat_abs z
 mag_abs (pos n) = omega arith
@@ -14,15 +12,6 @@ fits_small z h = record { sfits = omega (arith, mag_abs z) }
 pub back : (z : ℤ) → nat_abs z ≤ 9007199254740992 → to_z w64 (of_z w64 z) ≡ z
 back z h = to_z-of_z (fits_small z h)
 
-from_nothing : (z : ℤ) → pos 0 -ℤ z ≡ neg_ℤ z
-from_nothing z = +ℤ_idl (neg_ℤ z)
-
-pub negation_fits : (z : ℤ) → nat_abs z ≤ 1 → SFits w64 (pos 0 -ℤ to_z w64 (of_z w64 z))
-negation_fits z h = rw (back z (omega arith), from_nothing z) (fits_small (neg_ℤ z) (omega (arith, abs_neg z)))
-
-pub negation : (z : ℤ) → nat_abs z ≤ 1 → to_z w64 (of_z w64 (pos 0 -ℤ to_z w64 (of_z w64 z))) ≡ neg_ℤ z
-negation z h = rw (back z (omega arith), from_nothing z) (back (neg_ℤ z) (omega (arith, abs_neg z)))
-
 pub near : (z : ℤ) (n : ℕ) → nat_abs z ≤ n → n ≤ 9007199254740992 → nat_abs (to_z w64 (of_z w64 z)) ≤ n
 near z n h k = rw (back z (omega arith)) h
 
@@ -31,17 +20,8 @@ near z n h k = rw (back z (omega arith)) h
 pub to_word : (z : ℤ) → z ≡ pos (nat_abs z) → nat_abs z ≤ 256 → T (non_neg (to_z w64 (of_z w64 z))) × Fits w32 (nat_abs (to_z w64 (of_z w64 z)))
 to_word z p h = rw (back z (omega arith)) (subst (λ (y : ℤ). T (non_neg y)) (sym p) tt, record { fits = omega arith })
 
-pub to_byte : (z : ℤ) → z ≡ pos (nat_abs z) → nat_abs z ≤ 7 → T (non_neg (to_z w64 (of_z w64 z))) × Fits w8 (nat_abs (to_z w64 (of_z w64 z)))
-to_byte z p h = rw (back z (omega arith)) (subst (λ (y : ℤ). T (non_neg y)) (sym p) tt, record { fits = omega arith })
-
 mag_fits : (z : ℤ) → mag z ≤ 2147483647 → SFits w64 z
 mag_fits z h = record { sfits = omega arith }
-
-pub to_level : (z : ℤ) → mag z ≤ 2147483647 → SFits w32 (to_z w64 (of_z w64 z))
-to_level z h = rw (to_z-of_z (mag_fits z h)) (record { sfits = omega arith })
-
-pub level_back : (z : ℤ) → mag z ≤ 2147483647 → to_z w32 (of_z w32 (to_z w64 (of_z w64 z))) ≡ z
-level_back z h = rw (to_z-of_z (mag_fits z h)) (to_z-of_z {w = w32} {z = z} (record { sfits = omega arith }))
 
 pub level_near : (z : ℤ) → mag z ≤ 2147483647 → mag (to_z w64 (of_z w64 z)) ≤ 2147483647
 level_near z h = rw (to_z-of_z (mag_fits z h)) h

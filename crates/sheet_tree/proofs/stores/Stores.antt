@@ -1,21 +1,20 @@
 -- What the stores of a place leave, over variables: from fresh, world boxes and key of a new slot are what they are. Assumes nothing.
-use Prim.Native.Nat.{ℕ, zero, suc, ◌+◌, ◌*◌, ◌<◌}
+use Prim.Native.Nat.{ℕ, zero, suc, ◌+◌, ◌*◌}
 use mathlib.Core.Path.{◌≡◌, refl, sym, ap, ◌∙◌}
 use mathlib.Core.Bool.{Bool, true, false}
 use mathlib.Core.List.{List, [], ◌∷◌}
-use lib.ListN.{set, take, replicate}
+use lib.ListN.{set, replicate}
 use lib.IntN.{ℤ}
 use lib.Ieee.{Float}
 use Rattle.numbers.specs.Rounded as float
 use Rattle.geometry_clips.specs.declared.clip.Clip.{Clip}
 use Rattle.geometry_clips.specs.Clips.{constructed}
-use Rattle.index_types.specs.declared.NodeId.{NodeId}
 use Rattle.tree_types.specs.declared.LocalNode.{LocalNode}
 use Rattle.tree_types.specs.declared.OptionNodeId.{OptionNodeId}
 use Rattle.tree_types.specs.declared.OptionNodeId.TheVariants as node
 use Rattle.tree_types.specs.Local.{stored, empty_rect}
 use Rattle.node_tables.specs.Tables.{put_rect, put_insets, put_affine, kind_of, put_clip}
-use Rattle.link_forest.specs.Table.{index_of, insert_all}
+use Rattle.link_forest.specs.Table.{insert_all}
 use Rattle.link_table.specs.declared.Links.{Links}
 use Rattle.link_table.specs.Links.{splice, add_root, add_last}
 use Rattle.index_state.specs.declared.Index.{Index}
@@ -29,19 +28,9 @@ use Rattle.tree_state.specs.declared.Tree.{Tree}
 use Rattle.tree_state.specs.Lent as lent
 use Rattle.tree_state.specs.Tree.{fresh_tree}
 use Rattle.tree_steps.specs.Structure.{link_new, store_local, clear_boxes, without_key, insert_tree}
-use Rattle.sheet_tree.specs.stores.Places.{tree, spot_of, depth_of, Placed}
+use Rattle.sheet_tree.specs.stores.Places.{tree, spot_of, depth_of}
 
 -- ---- the links
-
-pub parent_placed : (order : List ℕ) (count : ℕ) (parent : OptionNodeId) (h : NodeId) → parent ≡ node.Some h → Placed order count parent → index_of h.0 (take count order) < count
-parent_placed order count parent h e p = rw e at p
-
-pub under_none : (order depth : List ℕ) (count : ℕ) (parent : OptionNodeId) → parent ≡ node.None → (count ≡ spot_of order depth count parent) × (1 ≡ depth_of order depth count parent)
-under_none order depth count parent e = rw e (refl, refl)
-
-pub under_some : (order depth : List ℕ) (count : ℕ) (parent : OptionNodeId) (h : NodeId) → parent ≡ node.Some h
-    → (spot_of order depth count (node.Some h) ≡ spot_of order depth count parent) × (depth_of order depth count (node.Some h) ≡ depth_of order depth count parent)
-under_some order depth count parent h e = rw e (refl, refl)
 
 spliced : (t : Tree) (parent : OptionNodeId) (x : ℕ)
     → let l = t.links in splice l (spot_of l.order l.depth l.count parent) (x ∷ []) (depth_of l.order l.depth l.count parent ∷ []) ≡ link_new t parent x
