@@ -25,7 +25,7 @@ use Rattle.tree_rows.proofs.Rows.{after}
 use Rattle.plan.specs.Plan.{Plan, empty}
 use Rattle.plan.specs.Afresh.{world_place, world_bounds, candidate, nothing, hit}
 use Rattle.plan.specs.Calls as call
-use Rattle.plan.specs.Calls.{Call, Outcome, step, outcome}
+use Rattle.plan.specs.Calls.{Call, Outcome, step}
 use Rattle.plan.specs.Demand.{Answer, tapped, listed, run, outcomes}
 use Rattle.plan.proofs.Rows.{num, point, id, ten, root, child, words, settle, a, b, c, half_clip}
 use Rattle.sheet_format.specs.Sheet as sheet

@@ -12,7 +12,7 @@ identity = record { a = one; b = zero; c = zero; d = one; e = zero; f = zero }
 unfoldable pub mapped : Affine → Point → Point
 mapped t p = record { x = t.a ⊗ p.x ⊕ t.c ⊗ p.y ⊕ t.e; y = t.b ⊗ p.x ⊕ t.d ⊗ p.y ⊕ t.f }
 
--- P-as-Q: Q is applied first
+-- P·Q: Q is applied first
 unfoldable pub product : Affine → Affine → Affine
 product P Q =
     record {

@@ -1,4 +1,6 @@
 // The index's commit over lent tables: understory_index's index.rs, commit and commit_slot.
+#![tactic(auto)]
+
 ghost use Rattle.std.specs.Prelude.{◌≡◌, ◌+◌, ◌*◌, ◌<◌, ◌≤◌, ℕ, length, get_or, take};
 ghost use Rattle.index_sound.specs.Sound.{SoundOf};
 ghost use Rattle.index_types.specs.flat_tables.Tables.{box_at};

@@ -1,4 +1,6 @@
 // The damage of a commit, as it stands in lent room: understory_index's damage.rs. Room for moves is two slices, the old and the new boxes.
+#![tactic(auto)]
+
 ghost use Rattle.std.specs.Prelude.{◌≡◌, ◌*◌, ◌≤◌, length};
 ghost use Rattle.index_damage.specs.Damage as spec;
 

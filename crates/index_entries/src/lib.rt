@@ -1,5 +1,7 @@
 // The entries of the index over lent tables (understory_index's index.rs); the calls by value and the box tree stand on these. Here an entry is
 // updated; look-up, insert and remove are passed on.
+#![tactic(auto)]
+
 pub mod insert; // a new entry
 pub mod reads; // an entry is read, and what a key finds
 pub mod remove; // an entry is removed

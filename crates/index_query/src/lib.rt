@@ -1,4 +1,6 @@
 // The index's queries over lent tables: flatvec.rs, visit_rect, with index.rs's look at the entry. The visits come as a list in lent room.
+#![tactic(auto)]
+
 ghost use Rattle.std.specs.Prelude.{◌≡◌, cond, ◌+◌, ◌*◌, ◌<◌, ◌≤◌, length};
 ghost use Rattle.index_types.specs.flat_tables.Stride.{store};
 ghost use Rattle.index_query.specs.Query as spec;

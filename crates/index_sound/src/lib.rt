@@ -1,4 +1,6 @@
 // The run-time test of document 01's "Sound index", over lent tables: linear, and exact in both directions.
+#![tactic(auto)]
+
 ghost use Rattle.std.specs.Prelude.{◌≡◌, true, ◌&&◌, ℕ, ltb, eqb, length, get_or, take};
 ghost use Rattle.counting.specs.Times.{tally, times, every};
 ghost use Rattle.counting.specs.Lists.{once_below};

@@ -1,5 +1,7 @@
 // The index over FlatVec (document 01, modules 4 and 5): understory_index's index.rs over f64, with a node id as payload and 512 slots. Here
 // stand its record, an empty one, and what its calls answer; the calls themselves stand in the crate `understory_index`.
+#![tactic(auto)]
+
 ghost use Rattle.std.specs.Prelude.{◌≡◌};
 ghost use Rattle.index_state.specs.Index as spec;
 

@@ -1,5 +1,7 @@
 // Boxes and ids of the index: understory_index's types.rs, the part that FlatVec uses (document 01, module 3). A box may hold any f64,
 // NaN and inverted edges included. Each contract says which definition of specs/ the result equals.
+#![tactic(auto)]
+
 pub mod flat_tables; // boxes and ids in tables of numbers
 pub mod rooms; // ids in lent room
 

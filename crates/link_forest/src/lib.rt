@@ -1,1 +1,2 @@
 // No code: the forest that links stand for, its table in pre-order, and their laws, for the crates above.
+#![tactic(auto)]

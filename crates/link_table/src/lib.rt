@@ -1,5 +1,7 @@
 // The links of a box tree of at most 256 nodes (tree.rs: `parent`, `children`): a table in pre-order, the slots and beside them their depths,
 // in front of two arrays (link_forest, specs/Table.antt). Contracts speak of whole arrays, so that what stands behind the table is settled too.
+#![tactic(auto)]
+
 pub mod depths; // the slot right above, and the test of the shape
 pub mod moves; // a subtree goes out, or moves
 pub mod positions; // where a slot stands, and where its segment ends

@@ -1,4 +1,6 @@
 // Typed values of 256 nodes in flat tables of numbers: a rectangle or insets four f64 in a row, a transform six, a clip its kind and eight.
+#![tactic(auto)]
+
 pub mod boxes; // rectangles, insets and transforms
 pub mod clip_reads; // a clip is read
 pub mod clip_stores; // a clip is stored

@@ -1,4 +1,6 @@
 // f64: minimum, maximum, absolute value and finiteness, as kurbo takes them from the standard library of Rust.
+#![tactic(auto)]
+
 ghost use Rattle.std.specs.Prelude.{◌≡◌};
 ghost use Rattle.std.specs.Float.Ieee.Scale.{finite};
 ghost use Rattle.numbers.specs.Number as spec;

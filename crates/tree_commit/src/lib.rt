@@ -1,5 +1,7 @@
 // The box tree's `commit` (tree.rs), by value: every tree and every room is taken, and a refused call returns the tree and leaves the room as
 // they were given.
+#![tactic(auto)]
+
 pub mod queue; // the index's commit within it
 pub mod room; // the pending rectangles, and no mark
 pub mod work; // the work on a sound tree

@@ -1,4 +1,6 @@
 // The damage of a tree's commit, as it stands in lent room: understory_box_tree's damage.rs. The commit's answer has the count.
+#![tactic(auto)]
+
 ghost use Rattle.std.specs.Prelude.{◌≡◌, ◌+◌, ◌*◌, ◌≤◌, length};
 ghost use Rattle.node_tables.specs.Tables.{rect_at};
 ghost use Rattle.tree_steps.specs.Commit.{rects_of};

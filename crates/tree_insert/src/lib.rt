@@ -1,5 +1,7 @@
 // tree.rs's `insert`, by value: a slot is taken, the new node linked last under its parent or last of the roots, its local record stored, and the
 // node marked, changed in both. A refused call returns the tree as it was given.
+#![tactic(auto)]
+
 pub mod slots; // the slot that is taken
 pub mod stores; // what is stored there
 pub mod verdict; // why it is refused

@@ -1,4 +1,6 @@
 // The readings of links (tree.rs): a node's parent, children and neighbours in a walk.
+#![tactic(auto)]
+
 pub mod children; // a node's children
 pub mod walks; // its neighbours in a walk
 

@@ -1,4 +1,6 @@
 // Listings (tree.rs: intersect_rect, containing_point): ids in front of lent room, in entry order.
+#![tactic(auto)]
+
 pub mod entries; // the entries that are taken
 
 ghost use Rattle.std.specs.Prelude.{◌≡◌, length};

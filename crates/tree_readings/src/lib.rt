@@ -1,5 +1,7 @@
 // The readings of the tree and of local records (tree.rs): each is refused as document 01 has it, or answers from the stored records; none changes
 // the tree.
+#![tactic(auto)]
+
 pub mod answers; // what a reading answers
 pub mod boxes; // local records
 pub mod worlds; // world records

@@ -1,5 +1,7 @@
 // tree.rs's `remove`, by value: the nodes of a subtree go, children first in order. Of each its world box is pending if it has area, its entry is
 // marked removed and its slot freed. A refused call returns the tree as it was given.
+#![tactic(auto)]
+
 pub mod nodes; // the nodes, one after the other
 pub mod steps; // one node
 

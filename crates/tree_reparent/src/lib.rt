@@ -1,5 +1,7 @@
 // tree.rs's `reparent`, by value: a node with its subtree becomes the last child of its new parent or the last root, marked, and changed in both.
 // A refused call returns the tree as it was given.
+#![tactic(auto)]
+
 ghost use Rattle.std.specs.Prelude.{◌≡◌, true, ◌<◌, ◌≤◌, take};
 ghost use Rattle.link_forest.specs.Table.{depths_from};
 ghost use Rattle.tree_steps.specs.Structure as step;

@@ -1,5 +1,7 @@
 // The rework of the positions that a commit visits, one after the other over lent tables (tree.rs: update_world_subtree). A tree is large, so
 // nothing but its tables is handed on.
+#![tactic(auto)]
+
 pub mod boxes; // world box and hit box
 pub mod entries; // the entry in the index
 pub mod preconditions; // what a turn needs

@@ -1,4 +1,6 @@
 // The run-time test of document 01's "Sound tree" on any tree, also one made by hand: linear, and exact in both directions.
+#![tactic(auto)]
+
 pub mod entries; // the index's entries
 pub mod nodes; // the live nodes
 pub mod slots; // the slots

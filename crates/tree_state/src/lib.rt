@@ -1,5 +1,7 @@
 // The box tree by value: its tables in small groups, tree.rs's `Tree` with `Node`, `WorldNode` and `Dirty` taken apart by field. A table has a
 // place for each of 256 slots; links are a table in pre-order (crate `link_table`).
+#![tactic(auto)]
+
 ghost use Rattle.std.specs.Prelude.{◌≡◌};
 ghost use Rattle.tree_state.specs.Tree as spec;
 

@@ -1,4 +1,6 @@
 // Taps (tree.rs: hit_test_point, path_to_root): the strongest node that the point reaches, and its path from the root in lent room.
+#![tactic(auto)]
+
 pub mod candidates; // the strongest of the candidates
 pub mod fine; // the test of a node itself
 pub mod order; // which of two is the stronger

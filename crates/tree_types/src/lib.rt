@@ -1,5 +1,7 @@
 // Types of the box tree: understory_box_tree's types.rs, and the filter of tree.rs (document 01, module 6). Node ids stand in `index_types`, since
 // the index carries them.
+#![tactic(auto)]
+
 ghost use Rattle.std.specs.Prelude.{◌≡◌};
 ghost use Rattle.tree_types.specs.Local as spec;
 

@@ -30,12 +30,16 @@ unfolding times positions_from
 positions_behind i a zero h = refl
 positions_behind i a (suc n) h = omega (arith, miss i a (λ e. omega arith), positions_behind i (suc a) n (omega arith))
 
+positions_here : (a n : ℕ) → times a (positions_from a (suc n)) ≡ 1
+unfolding times positions_from
+positions_here a n = omega (arith, hit a, positions_before a (suc a) n (omega arith))
+
 pub positions_in : (i a n : ℕ) → a ≤ i → i < a + n → times i (positions_from a n) ≡ 1
 unfolding times positions_from
 positions_in i a zero h k = absurd (omega arith)
 positions_in i a (suc n) h k =
     elim (ℕ_discrete i a) [
-      | yes e ↦ rw e (omega (arith, hit a, positions_before a (suc a) n (omega arith)))
+      | yes e ↦ ap (λ (k : ℕ). times k (positions_from a (suc n))) e ∙ positions_here a n
       | no m ↦ omega (arith, miss i a m, positions_in i (suc a) n (omega arith) (omega arith))
     ]
 

@@ -1,5 +1,7 @@
 // World records of one node: the part of tree.rs that works them out (update_world_subtree, hit_test_point), over the typed values of the
 // geometry. Each contract says which definition of specs/ the result equals.
+#![tactic(auto)]
+
 ghost use Rattle.std.specs.Prelude.{◌≡◌};
 ghost use Rattle.tree_worlds.specs.World as spec;
 

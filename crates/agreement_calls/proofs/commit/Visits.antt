@@ -39,7 +39,7 @@ times_keep q x [] = nothing (q x)
     nothing : (b : Bool) → ◌≡◌ {A = ℕ} 0 (cond b 0 0)
     nothing true = refl
     nothing false = refl
-times_keep q x (y ∷ l) = elim (ℕ_discrete x y) [ yes e ↦ rw e (here (q y) refl (times_keep q y l)) | no n ↦ there n (q y) (times_keep q x l) ]
+times_keep q x (y ∷ l) = elim (ℕ_discrete x y) [ yes e ↦ subst (λ (z : ℕ). times z (keep q (y ∷ l)) ≡ cond (q z) (times z (y ∷ l)) 0) (sym e) (here (q y) refl (times_keep q y l)) | no n ↦ there n (q y) (times_keep q x l) ]
   where
     here : (b : Bool) → q y ≡ b → times y (keep q l) ≡ cond (q y) (times y l) 0 → times y (cond b (y ∷ keep q l) (keep q l)) ≡ cond b (tally (eqb y y) + times y l) 0
     here true e u = ap (λ (n : ℕ). tally (eqb y y) + n) (u ∙ ap (λ (c : Bool). cond c (times y l) 0) e)

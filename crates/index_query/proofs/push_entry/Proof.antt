@@ -3,7 +3,6 @@ use mathlib.Core.Path.{refl}
 use native.Mathlib.Omega.{arith}
 use lib.ListN.{length-set}
 use borrow.Author.Rules.{rules}
-use borrow.Author.Tests.{not-true, not-false}
 use Rattle.index_types.proofs.flat_tables.Segments.{plus_2, plus_3}
 use Rattle.index_query.proofs.push_entry.Statement.{statement}
 use Rattle.index_query.proofs.push_entry.Tie as tie

@@ -31,7 +31,7 @@ use Rattle.sheet_laws.specs.Built.{tree_up_to}
 use Rattle.sheet_laws.proofs.Tree.{fresh_start, sound_up_to}
 use Rattle.sheet_tree.specs.stores.Places.{tree, Placed, Fits}
 use Rattle.sheet_tree.specs.places.Rows.{sheet_of}
-use Rattle.sheet_tree.proofs.places.Steps.{Accepted, place_accepted, place_next}
+use Rattle.sheet_tree.proofs.places.Steps.{place_accepted, place_next}
 
 -- ---- a tree that accepts an insert
 

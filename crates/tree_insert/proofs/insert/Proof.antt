@@ -25,7 +25,7 @@ abbrev from_id : tie.After-next_id-id → tie.In-Accepted
 from_id c = c.before.before.before.before.before.before.before.before
 
 abbrev start : tie.After-next_id-id → tie.Start
-start c = (from_id c).before.before.before
+start c = (from_id c).before.before
 
 next_id-id-requires : tie.Need-next_id-id-requires
 next_id-id-requires c κs =
@@ -70,12 +70,12 @@ returns-in-Accepted c =
     let p = l.before in
     let s = p.before in
     let n = s.before.before in
-    let k = (from_id n).before.before in
+    let k = (from_id n).before in
     let A = (start n).args in
     done A.t A.parent A.local
     n.next_id-id.result s.take_slot.result p.link_parent.result l.store_local.result b.clear_boxes.result m.mark_both.result c.without_key.result
     n.next_id-id.ensures s.take_slot.ensures p.link_parent.ensures l.store_local.ensures b.clear_boxes.ensures m.mark_both.ensures c.without_key.ensures
-    ∙ accepted A.t A.parent A.local k.test.result k.test.ensures (from_id n).enum_told.given.1
+    ∙ accepted A.t A.parent A.local k.test-v.result k.test-v.ensures (from_id n).in-Accepted.is
 
 returns-in-Refused : tie.Need-returns-in-Refused
 returns-in-Refused c =

@@ -19,8 +19,7 @@ position-at-requires c κs = search rules
 add_last-requires : tie.Need-add_last-requires
 add_last-requires c κs =
     let Z = c.before.before.before.before in
-    let h = c.parent-1.given in
-    (omega (arith, c.position-at.ensures.1, placed_some Z.args.t Z.args.parent h.0.0 h.1 Z.requires.2), Z.requires.0, Z.requires.1)
+    (omega (arith, c.position-at.ensures.1, placed_some Z.args.t Z.args.parent c.in-Some.h c.in-Some.is Z.requires.2), Z.requires.0, Z.requires.1)
 
 returns-in-None : tie.Need-returns-in-None
 returns-in-None c = rw (c.add_root.ensures, c.in-None.is)

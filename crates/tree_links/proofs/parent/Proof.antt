@@ -24,14 +24,14 @@ parent_at-q-requires c κs =
     let s = p.before in
     let t = s.args.t in
     let z = sized t s.well_formed.0 in
-    (omega (arith, p.position-at.ensures.1, place_low t z s.requires.0 s.args.x s.requires.1), z.order, z.depth)
+    (omega (arith, c.position-at.ensures.1, place_low t z s.requires.0 s.args.x s.requires.1), z.order, z.depth)
 
 -- what is found is the parent's slot, or 256
 found : (c : tie.After-parent_at-q) → let s = c.before.before.before.before.before in c.parent_at-q.result ≡ parent_at s.args.t s.args.x
 found c =
     let p = c.before.before.before.before in
     let L = p.args.t.links in
-    c.parent_at-q.ensures ∙ ap (λ (n : ℕ). last_above (get_or L.depth n 0) 256 (take n L.order) (take n L.depth)) p.position-at.ensures.1
+    c.parent_at-q.ensures ∙ ap (λ (n : ℕ). last_above (get_or L.depth n 0) 256 (take n L.order) (take n L.depth)) c.position-at.ensures.1
 
 returns-then-q-eq256 : tie.Need-returns-then-q-eq256
 returns-then-q-eq256 c =
@@ -49,10 +49,10 @@ there c =
     rw (found q) (parent_some t s.args.x (sized t s.well_formed.0) s.requires.0 s.requires.1 (λ z. c.if-q-eq256.false (found q ∙ z)))
 
 id_of-requires : tie.Need-id_of-requires
-id_of-requires c κs = (there c.before.before).0
+id_of-requires c κs = (there c.before).0
 
 returns : tie.Need-returns
-returns c = ap link.Some c.id_of.ensures ∙ (there c.before.before.before).1
+returns c = ap link.Some c.id_of.ensures ∙ (there c.before.before).1
 
 pub parent_spec : {M : Type 1} → statement M
 parent_spec =

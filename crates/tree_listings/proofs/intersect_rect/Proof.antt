@@ -51,10 +51,10 @@ yes c = sym (told c.before) ∙ c.in_default.is
 list-n-requires : tie.Need-list-n-requires
 list-n-requires c κs =
     let e = c in
-    let s = start e.before.before.before in
+    let s = start e.before.before.before.before.before.before.before.before.before.before in
     let A = s.args in
-    let z = sized A.t s.good.0 in
-    let a = accepted A.t z A.filter.required_flags (length A.room.now) (yes e) in
+    let z = sized A.t s.well_formed.0 in
+    let a = accepted A.t z A.filter.required_flags (length A.room.now) (yes e.before.before.before.before.before.before.before.before) in
     let u = sound_used A.t z a.whole.test in
     (carried A.t a.whole a.no_need, u.0, u.1, a.long)
 
@@ -64,10 +64,10 @@ shape_of-room c = search rules
 returns : tie.Need-returns
 returns c =
     let e = c in
-    let A = (start e.before.before.before).args in
+    let A = (start e.before.before.before.before.before.before.before.before.before.before.before.before.before).args in
     let asked = A.filter.required_flags in
     let E = c.list-n.ensures A.t in
-    answered (request_verdict A.t asked (length A.room.now)) (rect_nodes A.t asked A.rect) A.room.now _ _ (yes e) E.0 E.1
+    answered (request_verdict A.t asked (length A.room.now)) (rect_nodes A.t asked A.rect) A.room.now _ _ (yes e.before.before.before.before.before.before.before.before.before.before.before) E.0 E.1
 
 pub intersect_rect_spec : {M : Type 1} → statement M
 intersect_rect_spec = tie.close (tie.spec asked_verdict-fresh-requires room_verdict-v-requires enum_known-v returns-in-Refused enum_told-1 list-n-requires shape_of-room returns)

@@ -9,6 +9,7 @@ use Rattle.tree_verdicts.proofs.nodes.Lengths.{sized}
 use Rattle.tree_verdicts.proofs.nodes.Nodes.{node_accepted}
 use Rattle.tree_state.specs.Tree.{local_at}
 use Rattle.tree_readings.specs.answers.Answers.{level_if}
+use Rattle.std.proofs.Common.{w32}
 use Rattle.tree_readings.proofs.z_index.Statement.{statement}
 use Rattle.tree_readings.proofs.z_index.Tie as tie
 
@@ -47,7 +48,7 @@ returns-in-Accepted c =
     let e = c in
     let n = e.before.before in
     let told = sym n.of_node.ensures ∙ e.in-Accepted.is in
-    ap level.Value (to_z-of_z (sfits_of c.level_at.type-inv) ∙ c.level_at.ensures) ∙ accepted _ _ told
+    ap level.Value (to_z-of_z {w = w32} (sfits_of c.level_at.type_inv) ∙ c.level_at.ensures) ∙ accepted _ _ told
 
 pub z_index_spec : {M : Type 1} → statement M
 z_index_spec =

@@ -19,8 +19,7 @@ move_last-requires : tie.Need-move_last-requires
 move_last-requires c κs =
     let Z = c.before.before.before in
     let A = Z.args in
-    let h = c.parent-1.given in
-    let o = outside_some A.l A.at c.position-to.result A.parent h.0.0 h.1 Z.requires.3 c.position-to.ensures.1 in
+    let o = outside_some A.l A.at c.position-to.result A.parent c.in-Some.h c.in-Some.is Z.requires.3 c.position-to.ensures.1 in
     (Z.requires.0, o.0, Z.requires.1, o.1, Z.requires.2)
 
 returns-in-None : tie.Need-returns-in-None

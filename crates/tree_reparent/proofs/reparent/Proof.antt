@@ -23,8 +23,7 @@ returns-in_default : tie.Need-returns-in_default
 returns-in_default c =
     let k = c.before in
     let A = k.args in
-    let q = c.enum_told-in_default-1.given in
-    refused (reparent_verdict A.t A.id A.parent) k.verdict-v.result (reparent_tree A.t A.id.0 A.parent) A.t k.verdict-v.ensures q.0.0 q.1
+    refused (reparent_verdict A.t A.id A.parent) k.verdict-v.result (reparent_tree A.t A.id.0 A.parent) A.t k.verdict-v.ensures c.in_default.field-0 c.in_default.is
 
 -- ---- an accepted verdict, and what it gives
 
@@ -35,22 +34,22 @@ ready : (c : tie.In-Accepted) (at : ℕ) → let A = (start c).args in at ≡ po
 ready c at e =
     let k = c.before in
     let A = (start c).args in
-    movable A.t A.id A.parent at (start c).well-formed.0 (sym k.verdict-v.ensures ∙ c.in-Accepted.is) e
+    movable A.t A.id A.parent at (start c).well_formed.0 (sym k.verdict-v.ensures ∙ c.in-Accepted.is) e
 
 position-at-requires : tie.Need-position-at-requires
 position-at-requires c κs =
     let e = c in
-    let A = (start e).args in
-    ((ready e (position_of A.t A.id.0) refl).count_fits, order_long A.t (start e).well-formed.0)
+    let A = (start e.before).args in
+    ((ready e.before (position_of A.t A.id.0) refl).count_fits, order_long A.t (start e.before).well_formed.0)
 
 move_node-tree-requires : tie.Need-move_node-tree-requires
-move_node-tree-requires c κs = ready c c.position-at.result c.position-at.ensures.1
+move_node-tree-requires c κs = ready c.before.before c.position-at.result c.position-at.ensures.1
 
 returns : tie.Need-returns
 returns c =
     let e = c in
     let k = e.before.before in
-    let A = (start e).args in
+    let A = (start e.before.before.before).args in
     accepted (reparent_verdict A.t A.id A.parent) k.verdict-v.result (reparent_tree A.t A.id.0 A.parent) A.t k.verdict-v.ensures c.move_node-tree.result e.in-Accepted.is c.move_node-tree.ensures
 
 pub reparent_spec : {M : Type 1} → statement M

@@ -17,10 +17,9 @@ of_node-node-requires c κs = search rules
 
 of_parent-v-requires : tie.Need-of_parent-v-requires
 of_parent-v-requires c κs =
-    let n = c.before.before.before in
-    let Z = n in
+    let Z = c.before.before.before in
     let l = sized Z.args.t Z.well_formed.0 in
-    λ e. live_needs Z.args.t l (node_accepted Z.args.t l Z.args.id (sym n.of_node-node.ensures ∙ e)).whole
+    λ e. live_needs Z.args.t l (node_accepted Z.args.t l Z.args.id (sym c.of_node-node.ensures ∙ e)).whole
 
 -- ---- the first tests, and what they give
 
@@ -39,7 +38,7 @@ both : (c : tie.In-Accepted) → let A = (start (from_told c)).args in Node A.t 
 both c =
     let k = from_told c in
     let A = (start k).args in
-    live_both A.t A.id A.parent k.of-parent.result (start k).good.0 (first_is k) c.in-Accepted.is
+    live_both A.t A.id A.parent k.of_parent-v.result (start k).well_formed.0 (first_is k) c.in-Accepted.is
 
 enum_told-1 : tie.Need-enum_told-1
 enum_told-1 c = search rules
@@ -51,19 +50,18 @@ returns-in_default : tie.Need-returns-in_default
 returns-in_default c =
     let k = c.before in
     let A = (start k).args in
-    let q = c.enum_told-in_default-1.given in
-    checked_stopped (first A.t A.id A.parent) k.of_parent-v.result (not (at_or_below A.t (position_of A.t A.id.0) A.parent)) no.BelowItself q.0.0 (first_is k) q.1
+    checked_stopped (first A.t A.id A.parent) k.of_parent-v.result (not (at_or_below A.t (position_of A.t A.id.0) A.parent)) no.BelowItself c.in_default.field-0 (first_is k) c.in_default.is
 
 position-at-requires : tie.Need-position-at-requires
 position-at-requires c κs =
     let e = c in
-    let Z = start (from_told e) in
-    ((both e).0.whole.count_fits, order_long Z.args.t Z.good.0)
+    let Z = start (from_told e.before.before) in
+    ((both e.before.before).0.whole.count_fits, order_long Z.args.t Z.well_formed.0)
 
 -- ---- the node's position
 
 abbrev from_position : tie.After-position-at → tie.In-Accepted
-from_position c = c
+from_position c = c.before.before.before
 
 at_fits : (c : tie.After-position-at) → c.position-at.result < (start (from_told (from_position c))).args.t.links.count
 at_fits c =
@@ -83,7 +81,7 @@ returns c =
     let p = c.before.before in
     let k = from_told (from_position p) in
     let A = (start k).args in
-    tested_all A.t A.id A.parent k.of-parent.result c.check.result p.position-at.result c.is_below.result (first_is k) p.position-at.ensures.1
+    tested_all A.t A.id A.parent k.of_parent-v.result c.check.result p.position-at.result c.is_below.result (first_is k) p.position-at.ensures.1
     (c.is_below.ensures ∙ is_below_lem A.t p.position-at.result A.parent) c.check.ensures
 
 pub verdict_spec : {M : Type 1} → statement M

@@ -31,9 +31,9 @@ decreases-loop-j visits n order depth slots-generation locals-bounds slop locals
 abbrev E : tie.Start invariant-loop-j decreases-loop-j → Tree → Tree
 E c t =
     let A = c.args in
-    lent.tree (lent.slots A.slots-generation.now t.slots.used t.slots.free t.slots.frees) (lent.links A.order.now A.depth.now t.links.count)
-    (lent.locals A.locals-bounds.now A.slop.now A.locals-transform.now A.kind.now A.locals-clip.now t.locals.level t.locals.flags)
-    (lent.worlds A.worlds-transform.now A.clipped.now A.worlds-clip.now A.worlds-bounds.now A.hit_bounds.now) t.marks
+    lent.tree (lent.slots A.slots_generation.now t.slots.used t.slots.free t.slots.frees) (lent.links A.order.now A.depth.now t.links.count)
+    (lent.locals A.locals_bounds.now A.slop.now A.locals_transform.now A.kind.now A.locals_clip.now t.locals.level t.locals.flags)
+    (lent.worlds A.worlds_transform.now A.clipped.now A.worlds_clip.now A.worlds_bounds.now A.hit_bounds.now) t.marks
     (lent.keys A.committed.now A.slot.now A.keys_generation.now) t.pending
     (lent.index A.index_generation.now A.mark.now A.payload.now A.aabb.now A.kept.now A.prev.now A.used A.free.now A.frees A.dirty.now A.queued t.index.backend)
 
@@ -41,9 +41,9 @@ abbrev At : tie.At-loop-j invariant-loop-j decreases-loop-j → Tree → Tree
 At c t =
     let A = c.args in
     let L = c.loop-j in
-    lent.tree (lent.slots A.slots-generation.now t.slots.used t.slots.free t.slots.frees) (lent.links A.order.now A.depth.now t.links.count)
-    (lent.locals A.locals-bounds.now A.slop.now A.locals-transform.now A.kind.now A.locals-clip.now t.locals.level t.locals.flags)
-    (lent.worlds L.worlds-transform L.clipped L.worlds-clip L.worlds-bounds L.hit_bounds) t.marks
+    lent.tree (lent.slots A.slots_generation.now t.slots.used t.slots.free t.slots.frees) (lent.links A.order.now A.depth.now t.links.count)
+    (lent.locals A.locals_bounds.now A.slop.now A.locals_transform.now A.kind.now A.locals_clip.now t.locals.level t.locals.flags)
+    (lent.worlds L.worlds_transform L.clipped L.worlds_clip L.worlds_bounds L.hit_bounds) t.marks
     (lent.keys L.committed L.slot L.keys_generation) t.pending
     (lent.index L.index_generation L.mark L.payload L.aabb L.kept L.prev L.u A.free.now L.f L.dirty L.q t.index.backend)
 
@@ -69,7 +69,7 @@ bounds-visits-j : tie.Need-bounds-visits-j invariant-loop-j decreases-loop-j
 bounds-visits-j c = omega (arith, c.requires.0, c.loop-j.invariant.j_fits, c.loop-j-test.true)
 
 overflow_cast-at : tie.Need-overflow_cast-at invariant-loop-j decreases-loop-j
-overflow_cast-at c = omega (arith, place_low (turn c.before))
+overflow_cast-at c = omega (arith, place_low (turn c.before.before))
 
 rework_node-r-requires : tie.Need-rework_node-r-requires invariant-loop-j decreases-loop-j
 rework_node-r-requires c κs =
@@ -83,7 +83,7 @@ rework_node-r-requires c κs =
       P.3,
       L.invariant.whole,
       omega (arith, P.5, L.invariant.long),
-      (t, (done A.visits.now L.j (E S) t ds).damage, L.invariant.counted t ds P.6.2, turn c.before.before.before.before.before.before.before.before.before.before.before.before.before.before.before.before.before),
+      (t, (done A.visits.now L.j (E S.before) t ds).damage, L.invariant.counted t ds P.6.2, turn c.before.before.before.before.before.before.before.before.before.before.before.before.before.before.before.before.before.before),
     )
 
 overflow_add-j : tie.Need-overflow_add-j invariant-loop-j decreases-loop-j
@@ -98,7 +98,7 @@ loop-j-preserved c =
     let A = S.args in
     let L = c.loop-j in
     let R = c.rework_node-r.ensures in
-    next A.visits.now A.n (E S) (At c.before.before.before.before.before.before.before.before.before.before.before.before.before.before.before.before.before.before.before.before.before) L.dirty A.room.now L.room A.count L.m L.j S.requires.1 S.requires.0 L.invariant c.loop-j-test.true _ _ _ _ R.0 R.1.0 R.1.1
+    next A.visits.now A.n (E S.before) (At c.before.before.before.before.before.before.before.before.before.before.before.before.before.before.before.before.before.before.before.before.before.before) L.dirty A.room.now L.room A.count L.m L.j S.requires.1 S.requires.0 L.invariant c.loop-j-test.true _ _ _ _ R.0 R.1.0 R.1.1
 
 shape_of-room : tie.Need-shape_of-room invariant-loop-j decreases-loop-j
 shape_of-room c = c.loop-j.invariant.long

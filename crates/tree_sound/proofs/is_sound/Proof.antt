@@ -1,8 +1,7 @@
 -- `tree_sound::is_sound` lends its tables to the test. Assumes nothing.
 use mathlib.Core.Path.{◌≡◌}
-use Prim.Native.Nat.{ℕ}
 use lib.ListN.{length}
-use borrow.Author.Rules.{rules, length_unmapped}
+use borrow.Author.Rules.{rules}
 use Rattle.tree_sound.proofs.is_sound.Statement.{statement}
 use Rattle.tree_sound.proofs.is_sound.Tie as tie
 
@@ -16,13 +15,13 @@ free_long : (c : tie.Start) → length c.args.t.slots.free ≡ 256
 free_long c = search rules
 
 mark_long : (c : tie.Start) → length c.args.t.index.mark ≡ 512
-mark_long c = length_unmapped ℕ c.args.t.index.mark 512 c.well_formed.0.1.1.1.1.1.1.1.1.1.0.1.1.1.0.1.0.1
+mark_long c = c.well_formed.0.1.1.1.1.1.1.1.1.1.0.1.1.1.0.1.0.1
 
 entries_free_long : (c : tie.Start) → length c.args.t.index.free ≡ 512
-entries_free_long c = length_unmapped ℕ c.args.t.index.free 512 c.well_formed.0.1.1.1.1.1.1.1.1.1.0.1.1.1.1.1.1.1.1.1.0.1.0.1
+entries_free_long c = c.well_formed.0.1.1.1.1.1.1.1.1.1.0.1.1.1.1.1.1.1.1.1.0.1.0.1
 
 dirty_long : (c : tie.Start) → length c.args.t.index.dirty ≡ 512
-dirty_long c = length_unmapped ℕ c.args.t.index.dirty 512 c.well_formed.0.1.1.1.1.1.1.1.1.1.0.1.1.1.1.1.1.1.1.1.1.1.0.1.0.1
+dirty_long c = c.well_formed.0.1.1.1.1.1.1.1.1.1.0.1.1.1.1.1.1.1.1.1.1.1.0.1.0.1
 
 sound_tables-requires : tie.Need-sound_tables-requires
 sound_tables-requires c κs =

@@ -6,7 +6,6 @@ use Prim.Native.Nat.{◌≤◌}
 use native.Mathlib.Omega.{arith}
 use lib.ListN.{length}
 use borrow.Author.Rules.{rules}
-use borrow.Author.Tests.{not-true, not-false}
 use Rattle.index_sound.specs.Sound.{sound_of}
 use Rattle.tree_state.specs.declared.Tree.{Tree}
 use Rattle.tree_state.specs.Lent as lent
@@ -21,37 +20,37 @@ abbrev tree : tie.Start → Tree → Tree
 tree s t =
     let A = s.args in
     lent.tree
-    (lent.slots A.slots-generation.now A.slots_used A.slots_free.now A.slots-frees)
-    (lent.links A.order.now A.depth.now A.links-count)
-    (lent.locals A.locals-bounds.now A.slop.now A.locals-transform.now A.kind.now A.locals-clip.now t.locals.level A.flags.now)
-    (lent.worlds t.worlds.transform t.worlds.clipped t.worlds.clip A.worlds-bounds.now A.hit_bounds.now)
-    (lent.marks A.marked.now A.marks-transform.now A.marks-clip.now)
+    (lent.slots A.slots_generation.now A.slots_used A.slots_free.now A.slots_frees)
+    (lent.links A.order.now A.depth.now A.links_count)
+    (lent.locals A.locals_bounds.now A.slop.now A.locals_transform.now A.kind.now A.locals_clip.now t.locals.level A.flags.now)
+    (lent.worlds t.worlds.transform t.worlds.clipped t.worlds.clip A.worlds_bounds.now A.hit_bounds.now)
+    (lent.marks A.marked.now A.marks_transform.now A.marks_clip.now)
     (lent.keys A.committed.now A.slot.now A.keys_generation.now)
     (lent.pending t.pending.rects A.pending_count)
-    (lent.index A.index_generation.now A.mark.now A.payload.now t.index.aabb t.index.kept t.index.prev A.index-used
-    A.index_free.now A.index-frees A.dirty.now A.queued t.index.backend)
+    (lent.index A.index_generation.now A.mark.now A.payload.now t.index.aabb t.index.kept t.index.prev A.index_used
+    A.index_free.now A.index_frees A.dirty.now A.queued t.index.backend)
 
 module _ (c : tie.Else-not-live) where
   abbrev start : tie.Start
   start = c.before.before
 
-  passed : c.before.count-slots.result.ok ≡ true
-  passed = c.if1.false
+  passed : c.before.count_slots-live.result.ok ≡ true
+  passed = c.if-not-live.false
 
-  right : let A = start.args in slots_right A.order.now A.links-count A.slots_free.now A.slots-frees A.slots_used ≡ true
-  right = sym c.before.count-slots.ensures.0 ∙ passed
+  right : let A = start.args in slots_right A.order.now A.links_count A.slots_free.now A.slots_frees A.slots_used ≡ true
+  right = sym c.before.count_slots-live.ensures.0 ∙ passed
 
-  fit : start.args.links-count ≤ 256
+  fit : start.args.links_count ≤ 256
   fit =
       let A = start.args in
-      slots_fit A.order.now A.links-count A.slots_free.now A.slots-frees A.slots_used right start.requires.0
+      slots_fit A.order.now A.links_count A.slots_free.now A.slots_frees A.slots_used right start.requires.0
 
-  low : Low start.args.order.now start.args.links-count
+  low : Low start.args.order.now start.args.links_count
   low =
       let A = start.args in
-      slots_low A.order.now A.links-count A.slots_free.now A.slots-frees A.slots_used right start.requires.0
+      slots_low A.order.now A.links_count A.slots_free.now A.slots_frees A.slots_used right start.requires.0
 
-  listed : (start.args.links-count ≤ 256) × (length start.args.order.now ≡ 256) × Low start.args.order.now start.args.links-count
+  listed : (start.args.links_count ≤ 256) × (length start.args.order.now ≡ 256) × Low start.args.order.now start.args.links_count
   listed = (fit, start.requires.0, low)
 
 times_long : (c : tie.After-count_slots-live) → length c.count_slots-live.result.times ≡ 256
@@ -65,13 +64,13 @@ module _ (c : tie.Else-not-index) where
   abbrev from : tie.Start
   from = start (slots_passed c)
 
-  sound : let A = from.args in sound_of A.mark.now A.index_free.now A.index-frees A.dirty.now A.queued A.index-used ≡ true
-  sound = sym c.before.is-sound.ensures ∙ c.if2.false
+  sound : let A = from.args in sound_of A.mark.now A.index_free.now A.index_frees A.dirty.now A.queued A.index_used ≡ true
+  sound = sym c.before.is_sound-index.ensures ∙ c.if-not-index.false
 
-  fits : from.args.index-used ≤ 512
+  fits : from.args.index_used ≤ 512
   fits =
       let A = from.args in
-      sound_of_used A.mark.now A.index_free.now A.index-frees A.dirty.now A.queued A.index-used from.requires.3 from.requires.4
+      sound_of_used A.mark.now A.index_free.now A.index_frees A.dirty.now A.queued A.index_used from.requires.3 from.requires.4
       from.requires.5 sound
 
 count_slots-live-requires : tie.Need-count_slots-live-requires
@@ -106,13 +105,13 @@ new_right-new-requires : tie.Need-new_right-new-requires
 new_right-new-requires c κs = listed (slots_passed c.before.before.before)
 
 entries_right-entries-requires : tie.Need-entries_right-entries-requires
-entries_right-entries-requires c κs = let e = c.before.before.before.before.before.before in (times_long (slots_passed e).before, fits e)
+entries_right-entries-requires c κs = let e = c.before.before.before.before.before in (times_long (slots_passed e).before, fits e)
 
 count_removed-removed-requires : tie.Need-count_removed-removed-requires
-count_removed-removed-requires c κs = fits c.before.before.before.before.before.before.before
+count_removed-removed-requires c κs = fits c.before.before.before.before.before.before
 
 count_committed-owning-requires : tie.Need-count_committed-owning-requires
-count_committed-owning-requires c κs = listed (slots_passed c.before.before.before.before.before.before.before.before)
+count_committed-owning-requires c κs = listed (slots_passed c.before.before.before.before.before.before.before)
 
 overflow_add-few : tie.Need-overflow_add-few
 overflow_add-few c = omega (arith, c.count_committed-owning.ensures.0, c.count_removed-removed.ensures.0)
@@ -121,14 +120,14 @@ returns : tie.Need-returns
 returns c =
     let removed = c.before in
     let entries = removed.before in
-    let new = entries.before.before.before in
+    let new = entries.before.before in
     let owners = new.before in
     let marks = owners.before in
     let values = marks.before in
     let e = values.before in
     let s = from e in
     let k = (slots_passed e).before in
-    λ t. answered (tree s t) s.requires.0 (right (slots_passed e)) k.count-slots.result.times (k.count-slots.ensures.1 (passed (slots_passed e)))
+    λ t. answered (tree s t) s.requires.0 (right (slots_passed e)) k.count_slots-live.result.times (k.count_slots-live.ensures.1 (passed (slots_passed e)))
     s.requires.3 s.requires.4 s.requires.5 (sound e)
     e.depths_ok-shape.ensures
     values.values_right-values.ensures

@@ -53,32 +53,32 @@ took : (c : tie.In_default) → let A = (start c.before.before).args in Accepted
 took c =
     let s = start c.before.before in
     let A = s.args in
-    accepted A.t (sized A.t s.good.0) A.filter.required_flags (length A.room.now) (yes c)
+    accepted A.t (sized A.t s.well_formed.0) A.filter.required_flags (length A.room.now) (yes c)
 
 -- before the tables are lent to the search
 abbrev from : tie.After-strongest-best → tie.In_default
-from c = c
+from c = c.before.before.before.before.before.before.before.before.before.before.before.before.before.before.before
 
 strongest-best-requires : tie.Need-strongest-best-requires
 strongest-best-requires c κs =
-    let e = c in
-    let s = start e.before.before.before in
-    tappable s.args.t (sized s.args.t s.good.0) (took e).whole (took e).no_need
+    let e = c.before.before.before.before.before.before.before.before.before.before.before.before.before.before in
+    let s = start e.before.before in
+    tappable s.args.t (sized s.args.t s.well_formed.0) (took e).whole (took e).no_need
 
 -- the answer, on the tree itself
-told : (c : tie.After-strongest-best) → let A = (start (from c).before.before.before).args in best_of c.strongest-best.result ≡ hit_node A.t A.filter.required_flags A.point
-told c = c.strongest-best.ensures.0 (start (from c).before.before.before).args.t
+told : (c : tie.After-strongest-best) → let A = (start (from c).before.before).args in best_of c.strongest-best.result ≡ hit_node A.t A.filter.required_flags A.point
+told c = c.strongest-best.ensures.0 (start (from c).before.before).args.t
 
 returns-then-best-eq256 : tie.Need-returns-then-best-eq256
 returns-then-best-eq256 c =
     let e = from c.before in
-    let A = (start e.before.before.before).args in
+    let A = (start e.before.before).args in
     let asked = A.filter.required_flags in
     let n = sym (ap best_of c.if-best-eq256.true) ∙ told c.before in
     nothing (request_verdict A.t asked (length A.room.now)) A.t (hit_node A.t asked A.point) A.room.now (yes e) (sym n ∙ best_none A.t)
 
 -- the best is shown
-shown : (c : tie.Else-best-eq256) → let A = (start (from c.before).before.before.before).args in Shown A.t.links.order A.t.links.count c.strongest-best.result
+shown : (c : tie.Else-best-eq256) → let A = (start (from c.before).before.before).args in Shown A.t.links.order A.t.links.count c.strongest-best.result
 shown c = c.strongest-best.ensures.1 c.if-best-eq256.false
 
 overflow_cast-x : tie.Need-overflow_cast-x
@@ -86,20 +86,20 @@ overflow_cast-x c = omega (arith, (shown c).0)
 
 position-at-requires : tie.Need-position-at-requires
 position-at-requires c κs =
-    let e = from c.before.before.before in
-    let s = start e.before.before.before in
-    let p = sound_places s.args.t (sized s.args.t s.good.0) (took e).whole.test in
+    let e = from c.before.before in
+    let s = start e.before.before in
+    let p = sound_places s.args.t (sized s.args.t s.well_formed.0) (took e).whole.test in
     (p.0, p.1)
 
 id_of-own-requires : tie.Need-id_of-own-requires
-id_of-own-requires c κs = (shown c.before.before.before.before.before).0
+id_of-own-requires c κs = (shown c.before.before.before).0
 
 write_path-deep-requires : tie.Need-write_path-deep-requires
 write_path-deep-requires c κs =
-    let y = c.before.before.before.before.before.before.before.before.before.before.before in
+    let y = c.before.before.before.before.before.before.before.before in
     let e = from y.before in
-    let s = start e.before.before.before in
-    let z = sized s.args.t s.good.0 in
+    let s = start e.before.before in
+    let z = sized s.args.t s.well_formed.0 in
     let p = sound_places s.args.t z (took e).whole.test in
     let at = c.position-at.ensures.1 in
     (omega (arith, at, (shown y).1), p.0, omega (arith, (shown y).0), p.1, z.depth, (took e).whole.depths, p.2, (took e).long)
@@ -109,16 +109,17 @@ shape_of-room c = search rules
 
 returns : tie.Need-returns
 returns c =
-    let y = c.before.before.before.before.before.before.before.before.before.before.before.before.before.before in
+    let y = c.before.before.before.before.before.before.before.before.before.before.before in
     let e = from y.before in
-    let A = (start e.before.before.before).args in
+    let A = (start e.before.before).args in
     let asked = A.filter.required_flags in
-    let S = y.strongest-best in
+    let S = c.strongest-best in
     let W = c.write_path-deep in
     let x = S.result in
     let at = c.position-at.ensures.1 in
     let E = rw (at, ← path_at_lem A.t x) at W.ensures in
-    hit (request_verdict A.t asked (length A.room.now)) A.t (hit_node A.t asked A.point) A.room.now x _ _ _ (yes e) (sym (told y.before) ∙ best_some A.t x y.if1.false) c.id_of-own.ensures E.0 E.1
+    hit (request_verdict A.t asked (length A.room.now)) A.t (hit_node A.t asked A.point) A.room.now x _ _ _ (yes e)
+    (sym (told y.before) ∙ best_some A.t x c.if-best-eq256.false) c.id_of-own.ensures E.0 E.1
 
 pub hit_test_point_spec : {M : Type 1} → statement M
 hit_test_point_spec =

@@ -1,9 +1,6 @@
 -- All lengths of a tree that a function is handed.
 use mathlib.Core.Path.{◌≡◌}
-use Prim.Native.Nat.{ℕ}
 use lib.ListN.{length}
-use lib.Ieee.{Float}
-use borrow.Author.Rules.{length_unmapped}
 use Rattle.tree_state.specs.declared.Tree.{Tree}
 use Rattle.tree_verdicts.proofs.nodes.Lengths as long
 use Rattle.tree_verdicts.proofs.nodes.Lengths.{Told}
@@ -11,10 +8,10 @@ use Rattle.tree_laws.specs.Whole.{Whole}
 
 module _ (t : Tree) (g : Told t) where
   present_long : length t.index.backend.present ≡ 512
-  present_long = length_unmapped ℕ t.index.backend.present 512 g.1.1.1.1.1.1.1.1.1.0.1.1.1.1.1.1.1.1.1.1.1.1.1.0.1.1.0.1.0.1
+  present_long = g.1.1.1.1.1.1.1.1.1.0.1.1.1.1.1.1.1.1.1.1.1.1.1.0.1.1.0.1.0.1
 
   boxes_long : length t.index.backend.boxes ≡ 2048
-  boxes_long = length_unmapped Float t.index.backend.boxes 2048 g.1.1.1.1.1.1.1.1.1.0.1.1.1.1.1.1.1.1.1.1.1.1.1.0.1.1.1.0.1.0.1
+  boxes_long = g.1.1.1.1.1.1.1.1.1.0.1.1.1.1.1.1.1.1.1.1.1.1.1.0.1.1.1.0.1.0.1
 
   pub whole : Whole t
   whole =

@@ -74,13 +74,13 @@ strongest-best-requires : tie.Need-strongest-best-requires invariant-loop-i decr
 strongest-best-requires c κs =
     let q = at_tap (at_point c) in
     let t = (start q).args.t in
-    tappable t (sized t (start q).good.0) (took q).whole (took q).no_need
+    tappable t (sized t (start q).well_formed.0) (took q).whole (took q).no_need
 
 answer_at-a-requires : tie.Need-answer_at-a-requires invariant-loop-i decreases-loop-i
 answer_at-a-requires c κs =
     let f = c.before.before.before in
     let q = at_tap (at_point f.before) in
-    let z = sized (start q).args.t (start q).good.0 in
+    let z = sized (start q).args.t (start q).well_formed.0 in
     ((took q).whole.count_fits, z.order, z.depth, f.strongest-best.ensures.1)
 
 -- what the tap finds, as the tree answers it
@@ -91,11 +91,11 @@ told c =
     let o = at_point f.before in
     let q = at_tap o in
     let t = (start q).args.t in
-    let p = q.tap-at.result in
+    let p = q.tap_at.result in
     let e : hit_node t o.before.asked_of.result o.point_of_lem.result ≡ hit_node t (asked_of p) (point_of p) = ap₂ (hit_node t) o.before.asked_of.ensures o.point_of_lem.ensures in
     c.answer_at-a.ensures
-    ∙ answer_is t (sized t (start q).good.0) (took q).whole f.strongest-best.result (hit_node t (asked_of p) (point_of p)) (f.strongest-best.ensures.0 t ∙ e) f.strongest-best.ensures.1
-    ∙ ap (λ (l : TapLine). answered (found t l)) q.tap-at.ensures
+    ∙ answer_is t (sized t (start q).well_formed.0) (took q).whole f.strongest-best.result (hit_node t (asked_of p) (point_of p)) (f.strongest-best.ensures.0 t ∙ e) f.strongest-best.ensures.1
+    ∙ ap (λ (l : TapLine). answered (found t l)) q.tap_at.ensures
 
 overflow_add-i : tie.Need-overflow_add-i invariant-loop-i decreases-loop-i
 overflow_add-i c =

@@ -30,10 +30,10 @@ decreases-loop-i places n clips m worlds keys pending index generation₀ free o
 
 -- the groups at a turn
 abbrev locals_at : tie.At-loop-i invariant-loop-i decreases-loop-i → Locals
-locals_at l = let L = l.loop-i in lent.locals L.bounds L.slop L.locals-transform L.kind L.locals-clip L.level L.flags
+locals_at l = let L = l.loop-i in lent.locals L.bounds L.slop L.locals_transform L.kind L.locals_clip L.level L.flags
 
 abbrev marks_at : tie.At-loop-i invariant-loop-i decreases-loop-i → Marks
-marks_at l = lent.marks l.loop-i.marked l.loop-i.marks-transform l.loop-i.marks-clip
+marks_at l = lent.marks l.loop-i.marked l.loop-i.marks_transform l.loop-i.marks_clip
 
 -- the way back to the start
 abbrev from_tables : tie.After-marks_clip-1 invariant-loop-i decreases-loop-i → tie.After-fresh-t invariant-loop-i decreases-loop-i
@@ -141,7 +141,7 @@ loop-i-preserved c =
     let h = low p.before.before.before in (
       omega (arith, h),
       next l.loop.generation l.loop.order l.loop.depth (locals_at l) (marks_at l)
-          A.places.now A.n A.clips.now A.m s.requires l.loop.i h l.loop.inv.1 p.parent_in_lem.result (parent p) v.local-of.result _ (local v) c.insert_place.ensures,
+          A.places.now A.n A.clips.now A.m s.requires l.loop.i h l.loop.inv.1 p.parent_in_lem.result (parent p) v.local_of.result _ (local v) c.insert_place.ensures,
     )
 
 returns : tie.Need-returns invariant-loop-i decreases-loop-i

@@ -43,8 +43,8 @@ returns c =
     let p = o.before.before in
     let A = p.args in
     let L = c.store_local.new in
-    let locals = lent.locals A.bounds.now A.slop.now A.locals-transform.now A.kind.now A.locals-clip.now A.level.now A.flags.now in
-    let marks = lent.marks A.marked.now A.marks-transform.now A.marks-clip.now in
+    let locals = lent.locals A.bounds.now A.slop.now A.locals_transform.now A.kind.now A.locals_clip.now A.level.now A.flags.now in
+    let marks = lent.marks A.marked.now A.marks_transform.now A.marks_clip.now in
     placed A.generation.now A.order.now A.depth.now locals marks A.x A.parent A.v o.insert_at.new.a d.insert_at-2.new.a
     (lent.locals L.0 L.1.0 L.1.1.0 L.1.1.1.0 L.1.1.1.1.0 L.1.1.1.1.1.0 L.1.1.1.1.1.1.0)
     (linked (tree A.generation.now (lent.links A.order.now A.depth.now A.x) locals marks)

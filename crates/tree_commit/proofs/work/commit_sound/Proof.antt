@@ -1,4 +1,5 @@
 -- `tree_commit::work::commit_sound` meets its contract: from call to call, the tree that the tables make up. Assumes nothing.
+use mathlib.Core.Bool.{not}
 use mathlib.Core.Path.{◌≡◌, refl, sym, ap, ◌∙◌}
 use mathlib.Core.List.{List}
 use Prim.Native.Nat.{ℕ}
@@ -6,7 +7,7 @@ use native.Mathlib.Omega.{arith}
 use lib.ListN.{length}
 use lib.Ieee.{Float}
 use borrow.Author.Rules.{rules}
-use borrow.Author.Tests.{not-true, not-false}
+use borrow.Author.Tests.{not-false}
 use Rattle.tree_state.specs.Tree.{needs_commit}
 use Rattle.tree_state.specs.Sound.{SoundTree}
 use Rattle.tree_laws.proofs.Whole.{sized}
@@ -25,13 +26,13 @@ abbrev begins : tie.After-needs-need → tie.Start
 begins c = c.before.before.before.before.before.before.before.before.before.before.before.before.before.before.before.before.before.before.before.before.before.before.before.before.before.before.before.before.before.before
 
 abbrev from_pending : tie.After-put_pending → tie.Else-not-need
-from_pending c = c.before.before.before.before
+from_pending c = c.before.before.before
 
 abbrev from_positions : tie.After-positions-n → tie.After-put_pending
-from_positions c = c.before.before.before.before.before.before.before.before.before.before.before.before
+from_positions c = c.before.before.before.before.before.before.before.before.before.before
 
 abbrev from_rework : tie.After-rework_all-r → tie.After-positions-n
-from_rework c = c.before.before.before.before.before.before.before.before.before.before.before.before.before.before.before.before.before.before.before.before.before.before.before.before.before.before.before.before.before.before
+from_rework c = c.before.before.before.before.before.before.before.before.before.before.before.before.before.before.before.before.before.before.before.before.before.before.before.before.before.before.before
 
 abbrev from_index : tie.After-commit_index-frees → tie.After-rework_all-r
 from_index c = c.before.before.before.before.before.before.before.before.before.before.before
@@ -67,11 +68,11 @@ returns-then-not-need c =
     clean A.t A.room.now (sym (told N) ∙ c.if-not-need.true)
 
 put_pending-requires : tie.Need-put_pending-requires
-put_pending-requires c κs = let S = begins c.before.before.before.before in ((sound_here S).pending_fits, S.requires.1, (whole_here S).pending)
+put_pending-requires c κs = let S = begins c.before.before.before in ((sound_here S).pending_fits, S.requires.1, (whole_here S).pending)
 
 positions-n-requires : tie.Need-positions-n-requires
 positions-n-requires c κs =
-    let S = begins (from_pending c.before.before.before.before.before.before.before.before.before.before.before).before in
+    let S = begins (from_pending c.before.before.before.before.before.before.before.before.before).before in
     ((whole_here S).slots.generation, (whole_here S).marks.marked, refl, linked S.args.t (whole_here S) (sound_here S))
 
 -- the room with the pending rectangles is as long
@@ -83,17 +84,17 @@ as_long c room e =
 rework_all-r-requires : tie.Need-rework_all-r-requires
 rework_all-r-requires c κs =
     let P = c.before.before.before.before.before.before.before.before.before.before.before.before.before.before.before.before.before.before.before.before.before.before.before.before.before.before.before.before.before in
-    let D = from_positions P in
+    let D = from_positions c.before.before.before.before.before.before.before.before.before.before.before.before.before.before.before.before.before.before.before.before.before.before.before.before.before.before in
     let S = begins (from_pending D).before in
     let t = S.args.t in
     let W = whole_here S in
-    let E = P.positions.ensures in (
+    let E = c.positions-n.ensures in (
       positions_few t _ _ _ E.0 E.1,
       E.0.0,
       W.links.order,
       W.links.depth,
       W.index.dirty,
-      omega (arith, S.requires.1, as_long D _ D.put-pending.ensures),
+      omega (arith, S.requires.1, as_long D _ D.put_pending.ensures),
       (t, (begun t).damage, pending_count S, positions_ready t _ _ _ E.0 E.1 W (sound_here S)),
     )
 
@@ -103,7 +104,7 @@ commit_index-frees-requires c κs =
     let P = from_rework R in
     let S = begins (from_pending (from_positions P)).before in
     let t = S.args.t in
-    let E = P.positions.ensures in
+    let E = c.positions-n.ensures in
     let X = (R.rework_all-r.ensures.0 t (begun t).damage).0 ∙ ap (λ (l : List ℕ). (rework_all (begun t) l).tree) (positions_are t _ _ _ E.0 E.1) in
     let F = finish_ready t _ (whole_here S) (sound_here S) X in
     (F.0.mark, F.0.free, F.0.dirty, (_, F.1))
@@ -115,7 +116,7 @@ shape_of-room : tie.Need-shape_of-room
 shape_of-room c =
     let R = from_index c.before.before.before.before.before in
     let D = from_positions (from_rework R) in
-    R.rework-all.ensures.1.1 ∙ as_long D _ D.put-pending.ensures
+    c.rework_all-r.ensures.1.1 ∙ as_long D _ D.put_pending.ensures
 
 returns : tie.Need-returns
 returns c =
@@ -128,14 +129,14 @@ returns c =
     let N = I.before in
     let S = begins N in
     let t = S.args.t in
-    let E = P.positions.ensures in
+    let E = c.positions-n.ensures in
     let v = positions_are t _ _ _ E.0 E.1 in
-    let X = R.rework-all.ensures.0 t (begun t).damage in
-    joined t _ _ _ _ _ _ _ _ _ _ _ S.args.room.now _ (sym (told N) ∙ not-false N.needs.result I.if1.left)
+    let X = R.rework_all-r.ensures.0 t (begun t).damage in
+    joined t _ _ _ _ _ _ _ _ _ _ _ S.args.room.now _ (sym (told N) ∙ not-false c.needs-need.result (ap not c.if-not-need.false))
     (X.0 ∙ ap (λ (l : List ℕ). (rework_all (begun t) l).tree) v)
     ((X.1 (pending_count S)).0 ∙ ap (λ (l : List ℕ). length (rework_all (begun t) l).damage) v)
     C.commit_index-frees.ensures M.clear_marks.ensures
-    ((X.1 (pending_count S)).1 S.args.room.now D.put-pending.ensures ∙ ap (λ (l : List ℕ). rects_in_front (rework_all (begun t) l).damage S.args.room.now) v)
+    ((X.1 (pending_count S)).1 S.args.room.now D.put_pending.ensures ∙ ap (λ (l : List ℕ). rects_in_front (rework_all (begun t) l).damage S.args.room.now) v)
 
 pub commit_sound_spec : {M : Type 1} → statement M
 commit_sound_spec =

@@ -30,9 +30,9 @@ told c = c.check-held.ensures ∙ ap (λ (b : Bool). checked is.Accepted b no.Un
 of_parent-linked-requires : tie.Need-of_parent-linked-requires
 of_parent-linked-requires c κs =
     let k = c.before.before.before in
-    let s = start k.before in
-    let l = sized s.args.t s.good.0 in
-    λ e. live_needs s.args.t l (held_accepted s.args.t l (sym (told k) ∙ e))
+    let s = start c.before.before.before in
+    let l = sized s.args.t s.well_formed.0 in
+    λ e. live_needs s.args.t l (held_accepted s.args.t l (sym (told c.before.before) ∙ e))
 
 is_finite-requires : tie.Need-is_finite-requires
 is_finite-requires c κs = search rules
@@ -55,8 +55,8 @@ returns c =
     let f = k.before.before.before in
     let p = f.before.before in
     let h = p.before.before.before.before in
-    let A = (start h.before).args in
-    rw (c.check.ensures, k.check-known.ensures, k.is_Known.ensures, f.check-finite.ensures, f.is_finite.ensures, p.of_parent-linked.ensures, told h, parent_in_lem A.t A.parent)
+    let A = (start c.before.before.before.before.before.before.before.before.before.before).args in
+    rw (c.check.ensures, k.check-known.ensures, k.is_known.ensures, f.check-finite.ensures, f.is_finite.ensures, p.of_parent-linked.ensures, told c.before.before.before.before.before.before.before.before.before, parent_in_lem A.t A.parent)
 
 pub test_spec : {M : Type 1} → statement M
 test_spec =

@@ -38,7 +38,7 @@ depth_at-requires c κs =
     let e = c.before.before in
     let s = e.before.before in
     let t = s.args.t in
-    omega (arith, in_table e, (find_needs t (sized t s.well_formed.0) s.requires.0 s.args.x s.requires.1).0)
+    omega (arith, in_table c.before, (find_needs t (sized t s.well_formed.0) s.requires.0 s.args.x s.requires.1).0)
 
 returns-then-depth_at-eq1 : tie.Need-returns-then-depth_at-eq1
 returns-then-depth_at-eq1 c =
@@ -46,7 +46,7 @@ returns-then-depth_at-eq1 c =
     let e = d.before.before.before in
     let p = e.before in
     let s = p.before in
-    next_root s.args.t s.args.x (p.position-next.result + 1) (ap (λ (n : ℕ). n + 1) p.position-next.ensures.1) d.depth_at.result d.depth_at.ensures (in_table e) c.if-depth_at-eq1.true
+    next_root s.args.t s.args.x (c.position-next.result + 1) (ap (λ (n : ℕ). n + 1) c.position-next.ensures.1) d.depth_at.result d.depth_at.ensures (in_table c.before.before.before) c.if-depth_at-eq1.true
 
 id_at-requires : tie.Need-id_at-requires
 id_at-requires c κs =
@@ -54,7 +54,7 @@ id_at-requires c κs =
     let s = e.before in
     let t = s.args.t in
     let z = sized t s.well_formed.0 in
-    (omega (arith, in_table e, (find_needs t z s.requires.0 s.args.x s.requires.1).0), slot_low t z s.requires.0 s.args.x s.requires.1 (e.position-next.result + 1) (in_table e))
+    (omega (arith, in_table c.before.before.before.before.before, (find_needs t z s.requires.0 s.args.x s.requires.1).0), slot_low t z s.requires.0 s.args.x s.requires.1 (c.position-next.result + 1) (in_table c.before.before.before.before.before))
 
 returns : tie.Need-returns
 returns c =
@@ -63,7 +63,7 @@ returns c =
     let e = d.before.before.before in
     let p = e.before in
     let s = p in
-    next_there s.args.t s.args.x (p.position-next.result + 1) (ap (λ (n : ℕ). n + 1) p.position-next.ensures.1) d.depth_at.result c.id_at.result d.depth_at.ensures c.id_at.ensures (in_table e) f.if2.false
+    next_there s.args.t s.args.x (c.position-next.result + 1) (ap (λ (n : ℕ). n + 1) c.position-next.ensures.1) c.depth_at.result c.id_at.result c.depth_at.ensures c.id_at.ensures (in_table c.before.before.before.before.before.before) c.if-depth_at-eq1.false
 
 pub next_in_order_spec : {M : Type 1} → statement M
 next_in_order_spec =

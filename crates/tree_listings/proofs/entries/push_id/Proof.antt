@@ -2,7 +2,6 @@ use mathlib.Core.Path.{refl}
 use Prim.Native.Nat.{◌<◌}
 use native.Mathlib.Omega.{arith}
 use borrow.Author.Rules.{rules}
-use borrow.Author.Tests.{not-true, not-false}
 use Rattle.tree_listings.proofs.entries.push_id.Statement.{statement}
 use Rattle.tree_listings.proofs.entries.push_id.Tie as tie
 

@@ -2,7 +2,6 @@ use mathlib.Core.Path.{◌≡◌, sym, ◌∙◌}
 use mathlib.Core.Bool.{true}
 use Prim.Native.Nat.{◌<◌}
 use borrow.Author.Rules.{rules}
-use borrow.Author.Tests.{not-true, not-false}
 use Rattle.index_query.specs.Query.{visits}
 use Rattle.tree_listings.specs.entries.Entries.{carried_by, meets}
 use Rattle.tree_listings.proofs.entries.Entries.{visits_used}
@@ -33,10 +32,10 @@ overflow_cast-x : tie.Need-overflow_cast-x
 overflow_cast-x c = search rules
 
 bounds-flags-x : tie.Need-bounds-flags-x
-bounds-flags-x c = rw c.id_at-id.ensures (low c.before.before)
+bounds-flags-x c = rw c.id_at-id.ensures (low c.before.before.before)
 
 rect_at-requires : tie.Need-rect_at-requires
-rect_at-requires c κs = rw c.id_at-id.ensures (low c.before.before.before)
+rect_at-requires c κs = rw c.id_at-id.ensures (low c.before.before.before.before)
 
 rect_to_aabb-world-requires : tie.Need-rect_to_aabb-world-requires
 rect_to_aabb-world-requires c κs = search rules
@@ -51,7 +50,7 @@ returns : tie.Need-returns
 unfolding meets
 returns c =
     let e = c.before.before.before.before.before.before.before in
-    rw (there e, c.overlaps.ensures, c.contains.ensures, c.rect_to_aabb-world.ensures, c.rect_at.ensures, c.id_at-id.ensures)
+    rw (there e.before, c.overlaps.ensures, c.contains.ensures, c.rect_to_aabb-world.ensures, c.rect_at.ensures, c.id_at-id.ensures)
 
 pub takes_spec : {M : Type 1} → statement M
 takes_spec = tie.close (tie.spec visited-visited-requires returns-then-not-visited id_at-id-requires overflow_cast-x bounds-flags-x rect_at-requires rect_to_aabb-world-requires contains-requires overlaps-requires returns)

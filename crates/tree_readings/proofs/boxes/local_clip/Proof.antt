@@ -28,10 +28,10 @@ low e =
     (node_accepted s.args.t (sized s.args.t s.well_formed.0) s.args.id (sym n.of_node.ensures ∙ e.in-Accepted.is)).slot_low
 
 byte_at-kind-requires : tie.Need-byte_at-kind-requires
-byte_at-kind-requires c κs = low c
+byte_at-kind-requires c κs = low c.before.before
 
 clip_at-requires : tie.Need-clip_at-requires
-clip_at-requires c κs = low c.before.before.before.before.before
+clip_at-requires c κs = low c.before.before.before.before
 
 returns-in-Refused : tie.Need-returns-in-Refused
 unfolding clip_if
@@ -39,10 +39,7 @@ returns-in-Refused c = let n = c.before in rw (← n.of_node.ensures, c.in-Refus
 
 returns-in-Accepted : tie.Need-returns-in-Accepted
 unfolding clip_if local_at
-returns-in-Accepted c =
-    let b = c.before.before.before in
-    let e = b.before.before.before in
-    rw (← e.of_node.ensures, e.in-Accepted.is, c.clip_at.ensures, b.byte_at-kind.ensures)
+returns-in-Accepted c = rw (← c.of_node.ensures, c.in-Accepted.is, c.clip_at.ensures, c.byte_at-kind.ensures)
 
 pub local_clip_spec : {M : Type 1} → statement M
 local_clip_spec =

@@ -47,9 +47,9 @@ entry c =
       mark = A.mark.now;
       index_free = A.index_free.now;
       dirty = A.dirty.now;
-      f = A.slots-frees;
+      f = A.slots_frees;
       p = A.pending_count;
-      g = A.index-frees;
+      g = A.index_frees;
       q = A.queued;
     }
 
@@ -84,62 +84,62 @@ bounds-gone-i c = omega (arith, c.loop-i.invariant.n_fits, c.loop-i-test.true)
 
 overflow_cast-x : tie.Need-overflow_cast-x invariant-loop-i decreases-loop-i
 overflow_cast-x c =
-    let k = c.before in
+    let k = c.before.before in
     let Z = k.before.before in
     omega (arith, slot_low (stays Z) (entry Z) _ (cur k.before) _ _ (turn k))
 
 rect_at-b-requires : tie.Need-rect_at-b-requires invariant-loop-i decreases-loop-i
 rect_at-b-requires c κs =
-    let k = c.before in
+    let k = c.before.before in
     let Z = k.before.before in
     slot_low (stays Z) (entry Z) _ (cur k.before) _ _ (turn k)
 
 push_damage_rect-p-requires : tie.Need-push_damage_rect-p-requires invariant-loop-i decreases-loop-i
 push_damage_rect-p-requires c κs =
-    let k = c.before.before.before in
+    let k = c.before.before.before.before in
     let Z = k.before.before in
     λ h. box_room (stays Z) (entry Z) _ (cur k.before) _ _ (turn k) (ap has_area (sym c.rect_at-b.ensures) ∙ h)
 
 bounds-committed-x : tie.Need-bounds-committed-x invariant-loop-i decreases-loop-i
 bounds-committed-x c =
-    let k = c.before.before.before.before in
+    let k = c.before.before.before.before.before.before in
     let Z = k.before.before in
     omega (arith, slot_low (stays Z) (entry Z) _ (cur k.before) _ _ (turn k))
 
 offset_bounds-slot-x : tie.Need-offset_bounds-slot-x invariant-loop-i decreases-loop-i
 offset_bounds-slot-x c =
-    let k = c.before.before.before.before.before in
+    let k = c.before.before.before.before.before.before.before in
     let Z = k.before.before in
     omega (arith, slot_low (stays Z) (entry Z) _ (cur k.before) _ _ (turn k))
 
 bounds-slot-x : tie.Need-bounds-slot-x invariant-loop-i decreases-loop-i
 bounds-slot-x c =
-    let k = c.before.before.before.before.before in
+    let k = c.before.before.before.before.before.before.before.before in
     let Z = k.before.before in
     omega (arith, slot_low (stays Z) (entry Z) _ (cur k.before) _ _ (turn k))
 
 offset_bounds-keys_generation-x : tie.Need-offset_bounds-keys_generation-x invariant-loop-i decreases-loop-i
 offset_bounds-keys_generation-x c =
-    let k = c.before.before.before.before.before.before in
+    let k = c.before.before.before.before.before.before.before.before.before in
     let Z = k.before.before in
     omega (arith, slot_low (stays Z) (entry Z) _ (cur k.before) _ _ (turn k))
 
 bounds-keys_generation-x : tie.Need-bounds-keys_generation-x invariant-loop-i decreases-loop-i
 bounds-keys_generation-x c =
-    let k = c.before.before.before.before.before.before in
+    let k = c.before.before.before.before.before.before.before.before.before.before in
     let Z = k.before.before in
     omega (arith, slot_low (stays Z) (entry Z) _ (cur k.before) _ _ (turn k))
 
 remove_key-l-requires : tie.Need-remove_key-l-requires invariant-loop-i decreases-loop-i
 remove_key-l-requires c κs =
-    let k = c.before.before.before.before.before.before.before.before.before.before in
+    let k = c.before.before.before.before.before.before.before.before.before.before.before.before.before.before in
     let Z = k.before.before in
     let T = turn k in
     (queue_fits (stays Z) (entry Z) _ (cur k.before) _ _ T, T.ready.dirty_long, owned (stays Z) (entry Z) _ (cur k.before) _ _ T)
 
 -- the way back from the last call
 abbrev from_key : tie.After-remove_key-l invariant-loop-i decreases-loop-i → tie.In-loop-i invariant-loop-i decreases-loop-i
-from_key c = c.before.before.before.before.before.before.before.before.before.before.before
+from_key c = c.before.before.before.before.before.before.before.before.before.before.before.before.before.before.before
 
 offset_bounds-slots_free-f : tie.Need-offset_bounds-slots_free-f invariant-loop-i decreases-loop-i
 offset_bounds-slots_free-f c =
@@ -149,47 +149,45 @@ offset_bounds-slots_free-f c =
 
 bounds-slots_free-f : tie.Need-bounds-slots_free-f invariant-loop-i decreases-loop-i
 bounds-slots_free-f c =
-    let k = from_key c in
+    let k = from_key c.before in
     let Z = k.before.before in
     omega (arith, free_low (stays Z) (entry Z) _ (cur k.before) _ _ (turn k))
 
 overflow_add-f : tie.Need-overflow_add-f invariant-loop-i decreases-loop-i
 overflow_add-f c =
-    let k = from_key c in
+    let k = from_key c.before in
     let Z = k.before.before in
     omega (arith, free_low (stays Z) (entry Z) _ (cur k.before) _ _ (turn k))
 
 overflow_add-i : tie.Need-overflow_add-i invariant-loop-i decreases-loop-i
-overflow_add-i c = let k = from_key c in omega (arith, k.before.loop.inv.n_fits, k.loop-test.taken)
+overflow_add-i c = let k = from_key c.before in omega (arith, k.before.loop-i.invariant.n_fits, k.loop-i-test.true)
 
 loop-i-smaller : tie.Need-loop-i-smaller invariant-loop-i decreases-loop-i
-loop-i-smaller c = let k = from_key c in omega (arith, k.loop-test.taken)
+loop-i-smaller c = let k = from_key c.before in omega (arith, k.loop-i-test.true)
 
 loop-i-preserved : tie.Need-loop-i-preserved invariant-loop-i decreases-loop-i
 loop-i-preserved c =
-    let k = from_key c in
+    let k = from_key c.before in
     let l = k.before in
     let Z = l.before in
     let A = Z.args in
-    let L = l.loop in
+    let L = l.loop-i in
     let x = get_or A.gone.now L.i 0 in
-    let u = c.before.before.before.before.before.before.before in
-    let b = u.before.before in
     let K = c.remove_key-l in
     let d : Changes = record {
       slots_free = set L.slots_free L.f x;
-      rects = u.push_damage_rect-p.new.rects;
+      rects = c.push_damage_rect-p.new.rects;
       mark = K.new.mark;
       index_free = K.new.free;
       dirty = K.new.dirty;
       f = L.f + 1;
-      p = u.push_damage_rect-p.result;
+      p = c.push_damage_rect-p.result;
       g = K.result.frees;
       q = K.result.queued;
     } in
-    inv_next (stays Z) A.gone.now A.n (entry Z) (cur l) L.i L.inv k.loop-test.taken d
+    inv_next (stays Z) A.gone.now A.n (entry Z) (cur l) L.i L.invariant k.loop-i-test.true d
     (next (stays Z) (entry Z) (take A.n A.gone.now) (cur l) x (drop (L.i + 1) (take A.n A.gone.now)) (turn k) d refl refl
-    (u.push_damage_rect-p.ensures ∙ ap (λ (r : Rect). push_rect (has_area r) (lent.pending L.rects L.p) r) b.rect_at-b.ensures)
+    (c.push_damage_rect-p.ensures ∙ ap (λ (r : Rect). push_rect (has_area r) (lent.pending L.rects L.p) r) c.rect_at-b.ensures)
     K.ensures.0 K.ensures.1.0.0 K.ensures.1.0.1 K.ensures.1.1.0 K.ensures.1.1.1)
 
 returns : tie.Need-returns invariant-loop-i decreases-loop-i

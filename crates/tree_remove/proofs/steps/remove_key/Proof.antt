@@ -1,6 +1,5 @@
 use mathlib.Core.Path.{◌≡◌, sym, ◌∙◌}
 use mathlib.Core.Bool.{true}
-use borrow.Author.Tests.{not-true, not-false}
 use Rattle.index_entries.specs.declared.reads.Mark.TheVariants as is
 use Rattle.tree_remove.specs.steps.Node.{Owned}
 use Rattle.tree_remove.proofs.steps.Steps.{never_dead, found_unmarked, not_added, none_removed, removed}
@@ -20,10 +19,10 @@ owned : (c : tie.Else-not-committed) → let A = c.args in Owned A.generation.no
 owned c = c.requires.2 (committed_is c)
 
 -- the entry that is found has no mark
-unmarked_here : (c : tie.In-Live-2) → c.in-Live.e.mark ≡ is.Unmarked
+unmarked_here : (c : tie.In-Live) → c.in-Live.e.mark ≡ is.Unmarked
 unmarked_here c =
     let k = c.before in
-    let z = k.before.before in
+    let z = k.before in
     let A = z.args in
     found_unmarked A.generation.now A.mark.now A.dirty.now A.queued A.key (owned z) A.payload.now A.aabb.now A.kept.now A.prev.now c.in-Live.e (sym k.look_up-found.ensures ∙ c.in-Live.is)
 
@@ -41,25 +40,23 @@ returns-in_default c =
     let k = c.before in
     let z = k.before.before in
     let A = z.args in
-    absurd (never_dead A.generation.now A.mark.now A.dirty.now A.queued A.key (owned z) A.payload.now A.aabb.now A.kept.now A.prev.now (sym k.look_up-found.ensures ∙ c.in_default.is))
+    absurd (never_dead A.generation.now A.mark.now A.dirty.now A.queued A.key (owned c.before.before) A.payload.now A.aabb.now A.kept.now A.prev.now (sym k.look_up-found.ensures ∙ c.in_default.is))
 
 remove_entry-requires : tie.Need-remove_entry-requires
 remove_entry-requires c κs =
-    let d = c in
-    let z = d in
-    let P = z.requires in
-    let O = owned z in
+    let d = c.before.before.before in
+    let P = c.requires in
+    let O = owned d.before.before in
     (O.low, P.0, P.1, O.room, λ a. absurd (not_added d.in-Live.e.mark (unmarked_here d) a))
 
 returns : tie.Need-returns
 returns c =
-    let d = c in
-    let z = d.before.before.before.before in
-    let A = z.args in
+    let d = c.before.before.before.before in
+    let A = c.args in
     let T = c.remove_entry.ensures in
     removed A.committed A.key.0 A.mark.now A.free.now A.dirty.now A.frees A.queued d.in-Live.e.mark
     c.remove_entry.new.mark c.remove_entry.new.free c.remove_entry.new.dirty c.remove_entry.result.frees c.remove_entry.result.queued
-    (committed_is z) (unmarked_here d) T.0 T.1.0 T.1.1.0 T.1.1.1.0 T.1.1.1.1
+    (committed_is d.before.before) (unmarked_here d) T.0 T.1.0 T.1.1.0 T.1.1.1.0 T.1.1.1.1
 
 pub remove_key_spec : {M : Type 1} → statement M
 remove_key_spec =

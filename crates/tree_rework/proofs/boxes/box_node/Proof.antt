@@ -15,12 +15,12 @@ use Rattle.tree_rework.proofs.boxes.box_node.Tie as tie
 
 -- the damage, in the two parts that are pushed
 parts : (c : tie.After-eq-changed) → let A = c.args in
-    damage_of (rect_at A.worlds-bounds.now A.x) (world_box A.w (rect_at A.locals-bounds.now A.x))
+    damage_of (rect_at A.worlds_bounds.now A.x) (world_box A.w (rect_at A.locals_bounds.now A.x))
     ≡ shown (not c.eq-changed.result) c.rect_at-old.result ++ shown (not c.eq-changed.result) c.world_bounds-new.result
 parts c =
     let A = c.args in
     rw (c.eq-changed.ensures, c.world_bounds-new.ensures, c.rect_at-old.ensures, c.rect_at-own.ensures)
-    (damage_parts (rect_at A.worlds-bounds.now A.x) (world_box A.w (rect_at A.locals-bounds.now A.x)))
+    (damage_parts (rect_at A.worlds_bounds.now A.x) (world_box A.w (rect_at A.locals_bounds.now A.x)))
 
 -- they have their room
 few : (c : tie.After-eq-changed)

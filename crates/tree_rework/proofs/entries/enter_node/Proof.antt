@@ -6,7 +6,6 @@ use Prim.Native.Nat.{ℕ}
 use Rattle.index_state.proofs.Soundness.{queue_length}
 use Rattle.tree_rework.specs.entries.Enter.{key}
 use borrow.Author.Rules.{rules}
-use borrow.Author.Tests.{not-true, not-false}
 use Rattle.index_state.specs.declared.FlatVec.{FlatVec}
 use Rattle.index_state.specs.declared.Index.{Index}
 use Rattle.tree_state.specs.declared.Keys.{Keys}
@@ -62,12 +61,12 @@ returns-then-not-committed-x : tie.Need-returns-then-not-committed-x
 returns-then-not-committed-x c =
     let S = c.before.before.before.before.before.before.before.before.before in
     let A = S.args in
-    let n = is_new c.before.before.before.before.before.before.before in
+    let n = is_new c.before.before.before.before.before.before.before.before.before in
     let T = c.insert_entry-t.ensures in
     let E = T.1.1.1.1.1.1 in (
       (λ backend. (
-        keyed_new (index_of S backend) _ n (keys_of S) A.x _ _ T.0 T.1.0,
-        entered_new (index_of S backend) _ A.same n _ A.id A.b _ _ _ _ _ _ _ _ _ _ _ T.0 T.1.0 T.1.1.0 T.1.1.1.0
+        keyed_new (index_of S.before.before.before backend) _ n (keys_of S.before.before.before) A.x _ _ T.0 T.1.0,
+        entered_new (index_of S.before.before.before backend) _ A.same n _ A.id A.b _ _ _ _ _ _ _ _ _ _ _ T.0 T.1.0 T.1.1.0 T.1.1.1.0
             T.1.1.1.1.0 T.1.1.1.1.1.0 E.0 E.1.0 E.1.1.0 E.1.1.1.0 E.1.1.1.1,
       )),
       ap length E.1.1.1.0 ∙ queue_length A.dirty.now A.queued _ ∙ S.requires.1,
@@ -79,8 +78,8 @@ returns-then-same c =
     let A = S.args in
     let o = is_old c.before in (
       (λ backend. (
-        keyed_old (index_of S backend) _ o (keys_of S) A.x,
-        entered_same (index_of S backend) _ A.same o c.if-same.true _ A.id A.b,
+        keyed_old (index_of S.before backend) _ o (keys_of S.before) A.x,
+        entered_same (index_of S.before backend) _ A.same o c.if-same.true _ A.id A.b,
       )),
       S.requires.1,
     )
@@ -111,7 +110,7 @@ returns-in_default c =
     let S = c.before.before.before.before.before.before.before.before.before.before in
     let A = S.args in
     let dead = look_dead A.index_generation.now A.mark.now A.payload.now A.aabb.now A.kept.now A.prev.now (key A.slot.now A.keys_generation.now A.x) (sym c.look_up-found.ensures ∙ c.in_default.is) in
-    let lives = S.requires.2.1.key_lives (is_old c.before.before.before.before.before.before.before.before.before.before) in
+    let lives = S.requires.2.1.key_lives (is_old c.before.before.before.before.before.before.before) in
     let z : ◌≡◌ {A = ℕ} 0 1 = cc in
     absurd (omega arith)
 
@@ -120,7 +119,7 @@ update_entry-length-requires c κs =
     let S = c.before.before.before.before.before.before.before.before.before.before.before.before.before.before.before in
     let A = S.args in
     let F = S.requires.2.1 in
-    let o = is_old c.before.before.before.before.before.before.before.before.before.before.before.before.before.before.before in (
+    let o = is_old c.before.before.before.before.before.before.before.before.before.before.before.before in (
       (live_slot A.index_generation.now A.mark.now (key A.slot.now A.keys_generation.now A.x) (F.key_lives o)).0,
       F.queue_fits,
       S.requires.1,
@@ -131,7 +130,7 @@ returns : tie.Need-returns
 returns c =
     let S = c.before.before.before.before.before.before.before.before.before.before.before.before.before.before.before.before in
     let A = S.args in
-    let o = is_old c.before.before.before.before.before.before.before.before.before.before.before.before.before.before.before.before in
+    let o = is_old c.before.before.before.before.before.before.before.before.before.before.before.before.before in
     let L = look_live A.index_generation.now A.mark.now A.payload.now A.aabb.now A.kept.now A.prev.now (key A.slot.now A.keys_generation.now A.x) _ (sym c.look_up-found.ensures ∙ c.in-Live.is) in
     let T = c.update_entry-length.ensures in (
       (λ backend. (

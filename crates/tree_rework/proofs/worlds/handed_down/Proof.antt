@@ -40,7 +40,7 @@ clip_rect_at-requires : tie.Need-clip_rect_at-requires
 clip_rect_at-requires c κs = search rules
 
 returns : tie.Need-returns
-returns c = rw (c.affine_at.ensures, c.clip_rect_at.ensures) (sym ((tells c.before.before.before.before).one (omega (arith, c.if-parent-ge256.false))))
+returns c = rw (c.affine_at.ensures, c.clip_rect_at.ensures) (sym ((tells c.before.before.before.before.before).one (omega (arith, c.if-parent-ge256.false))))
 
 pub handed_down_spec : {M : Type 1} → statement M
 handed_down_spec =

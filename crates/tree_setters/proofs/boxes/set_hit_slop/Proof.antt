@@ -29,7 +29,7 @@ low : (c : tie.In-Accepted) → (start c.before).args.id.0 < 256
 low c =
     let k = c.before in
     let A = (start k).args in
-    tested_low A.t A.id (finite_insets A.slop) no.NotFinite k.check-v.result (start k).well-formed.0 (tested k) c.in-Accepted.is
+    tested_low A.t A.id (finite_insets A.slop) no.NotFinite k.check-v.result (start k).well_formed.0 (tested k) c.in-Accepted.is
 
 of_node-node-requires : tie.Need-of_node-node-requires
 of_node-node-requires c κs = search rules
@@ -57,10 +57,10 @@ overflow_cast-x c = search rules
 -- the stored value
 
 abbrev from_read : tie.After-insets_at-stored → tie.In-Accepted
-from_read c = c
+from_read c = c.before.before.before
 
 insets_at-stored-requires : tie.Need-insets_at-stored-requires
-insets_at-stored-requires c κs = low c
+insets_at-stored-requires c κs = low c.before.before
 
 eq-requires : tie.Need-eq-requires
 eq-requires c κs = search rules
@@ -69,9 +69,9 @@ returns-then-eq : tie.Need-returns-then-eq
 returns-then-eq c =
     let d = c.before.before in
     let e = from_read d in
-    let k = e.before.before in
+    let k = e.before in
     let A = (start k).args in
-    accepted (verdict k) k.check.result _ A.t (tested k) A.t e.enum_told.given.1
+    accepted (verdict k) k.check-v.result _ A.t (tested k) A.t e.in-Accepted.is
     (slop_stays A.t A.id.0 c.eq.result A.slop d.insets_at-stored.result d.insets_at-stored.ensures c.eq.ensures c.if-eq.true)
 
 put_insets-requires : tie.Need-put_insets-requires
@@ -86,9 +86,9 @@ returns c =
     let f = p.before.before in
     let d = f.before.before in
     let e = from_read d in
-    let k = e.before.before in
+    let k = e.before in
     let A = (start k).args in
-    accepted (verdict k) k.check.result _ A.t (tested k) _ e.enum_told.given.1
+    accepted (verdict k) k.check-v.result _ A.t (tested k) _ e.in-Accepted.is
     (slop_done A.t A.id.0 f.eq.result A.slop d.insets_at-stored.result d.insets_at-stored.ensures f.eq.ensures f.if-eq.false p.put_insets.new.a c.mark.new.marks p.put_insets.ensures c.mark.ensures)
 
 pub set_hit_slop_spec : {M : Type 1} → statement M

@@ -29,7 +29,7 @@ low : (c : tie.In-Accepted) → (start c.before).args.id.0 < 256
 low c =
     let k = c.before in
     let A = (start k).args in
-    tested_low A.t A.id (finite_rect A.bounds) no.NotFinite k.check-v.result (start k).well-formed.0 (tested k) c.in-Accepted.is
+    tested_low A.t A.id (finite_rect A.bounds) no.NotFinite k.check-v.result (start k).well_formed.0 (tested k) c.in-Accepted.is
 
 of_node-node-requires : tie.Need-of_node-node-requires
 of_node-node-requires c κs = search rules
@@ -57,10 +57,10 @@ overflow_cast-x c = search rules
 -- the stored value
 
 abbrev from_read : tie.After-rect_at-stored → tie.In-Accepted
-from_read c = c
+from_read c = c.before.before.before
 
 rect_at-stored-requires : tie.Need-rect_at-stored-requires
-rect_at-stored-requires c κs = low c
+rect_at-stored-requires c κs = low c.before.before
 
 eq-requires : tie.Need-eq-requires
 eq-requires c κs = search rules
@@ -69,9 +69,9 @@ returns-then-eq : tie.Need-returns-then-eq
 returns-then-eq c =
     let d = c.before.before in
     let e = from_read d in
-    let k = e.before.before in
+    let k = e.before in
     let A = (start k).args in
-    accepted (verdict k) k.check.result _ A.t (tested k) A.t e.enum_told.given.1
+    accepted (verdict k) k.check-v.result _ A.t (tested k) A.t e.in-Accepted.is
     (bounds_stays A.t A.id.0 c.eq.result A.bounds d.rect_at-stored.result d.rect_at-stored.ensures c.eq.ensures c.if-eq.true)
 
 put_rect-requires : tie.Need-put_rect-requires
@@ -86,9 +86,9 @@ returns c =
     let f = p.before.before in
     let d = f.before.before in
     let e = from_read d in
-    let k = e.before.before in
+    let k = e.before in
     let A = (start k).args in
-    accepted (verdict k) k.check.result _ A.t (tested k) _ e.enum_told.given.1
+    accepted (verdict k) k.check-v.result _ A.t (tested k) _ e.in-Accepted.is
     (bounds_done A.t A.id.0 f.eq.result A.bounds d.rect_at-stored.result d.rect_at-stored.ensures f.eq.ensures f.if-eq.false p.put_rect.new.a c.mark.new.marks p.put_rect.ensures c.mark.ensures)
 
 pub set_local_bounds_spec : {M : Type 1} → statement M

@@ -29,7 +29,7 @@ low : (c : tie.In-Accepted) → (start c.before).args.id.0 < 256
 low c =
     let k = c.before in
     let A = (start k).args in
-    tested_low A.t A.id (finite_clip A.clip) no.NotFinite k.check-v.result (start k).well-formed.0 (tested k) c.in-Accepted.is
+    tested_low A.t A.id (finite_clip A.clip) no.NotFinite k.check-v.result (start k).well_formed.0 (tested k) c.in-Accepted.is
 
 of_node-node-requires : tie.Need-of_node-node-requires
 of_node-node-requires c κs = search rules
@@ -57,16 +57,16 @@ overflow_cast-x c = search rules
 -- the stored value
 
 abbrev from_read : tie.After-stored_clip-stored → tie.In-Accepted
-from_read c = c
+from_read c = c.before.before.before.before.before
 
 abbrev made : tie.After-stored_clip-stored → tie.After-construct-made
-made c = c.before.before.before.before
+made c = c.before.before.before
 
 construct-made-requires : tie.Need-construct-made-requires
 construct-made-requires c κs = search rules
 
 stored_clip-stored-requires : tie.Need-stored_clip-stored-requires
-stored_clip-stored-requires c κs = low c
+stored_clip-stored-requires c κs = low c.before.before.before.before
 
 eq-requires : tie.Need-eq-requires
 eq-requires c κs = search rules
@@ -75,10 +75,10 @@ returns-then-eq : tie.Need-returns-then-eq
 returns-then-eq c =
     let d = c.before.before in
     let e = from_read d in
-    let k = e.before.before in
+    let k = e.before in
     let A = (start k).args in
-    accepted (verdict k) k.check.result _ A.t (tested k) A.t e.enum_told.given.1
-    (clip_stays A.t A.id.0 c.eq.result A.clip (made d).construct.result d.stored_clip-stored.result (made d).construct.ensures d.stored_clip-stored.ensures c.eq.ensures c.if-eq.true)
+    accepted (verdict k) k.check-v.result _ A.t (tested k) A.t e.in-Accepted.is
+    (clip_stays A.t A.id.0 c.eq.result A.clip (made d).construct-made.result d.stored_clip-stored.result (made d).construct-made.ensures d.stored_clip-stored.ensures c.eq.ensures c.if-eq.true)
 
 clip_kind-kind-requires : tie.Need-clip_kind-kind-requires
 clip_kind-kind-requires c κs = search rules
@@ -104,10 +104,10 @@ returns c =
     let f = n.before in
     let d = f.before.before in
     let e = from_read d in
-    let k = e.before.before in
+    let k = e.before in
     let A = (start k).args in
-    accepted (verdict k) k.check.result _ A.t (tested k) _ e.enum_told.given.1
-    (clip_done A.t A.id.0 f.eq.result A.clip (made d).construct.result d.stored_clip-stored.result (made d).construct.ensures d.stored_clip-stored.ensures f.eq.ensures f.if-eq.false n.clip_kind-kind.result b.put_byte.new.bytes p.put_clip.new.a m.mark.new.marks c.mark-2.new.marks n.clip_kind-kind.ensures b.put_byte.ensures p.put_clip.ensures m.mark.ensures c.mark-2.ensures)
+    accepted (verdict k) k.check-v.result _ A.t (tested k) _ e.in-Accepted.is
+    (clip_done A.t A.id.0 f.eq.result A.clip (made d).construct-made.result d.stored_clip-stored.result (made d).construct-made.ensures d.stored_clip-stored.ensures f.eq.ensures f.if-eq.false n.clip_kind-kind.result b.put_byte.new.bytes p.put_clip.new.a m.mark.new.marks c.mark-2.new.marks n.clip_kind-kind.ensures b.put_byte.ensures p.put_clip.ensures m.mark.ensures c.mark-2.ensures)
 
 pub set_local_clip_spec : {M : Type 1} → statement M
 set_local_clip_spec =

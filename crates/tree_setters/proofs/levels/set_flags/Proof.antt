@@ -20,16 +20,16 @@ verdict c = flags_verdict (start c).args.t (start c).args.id (start c).args.flag
 tested : (c : tie.After-check-v) → c.check-v.result ≡ verdict c
 tested c =
     let A = (start c).args in
-    tested_all (of_node A.t A.id) c.of_node-node.result c.check-v.result (known A.flags) c.is_Known.result no.UnknownFlags
+    tested_all (of_node A.t A.id) c.of_node-node.result c.check-v.result (known A.flags) c.is_known.result no.UnknownFlags
     c.of_node-node.ensures
-    c.is_Known.ensures
+    c.is_known.ensures
     c.check-v.ensures
 
 low : (c : tie.In-Accepted) → (start c.before).args.id.0 < 256
 low c =
     let k = c.before in
     let A = (start k).args in
-    tested_low A.t A.id (known A.flags) no.UnknownFlags k.check-v.result (start k).well-formed.0 (tested k) c.in-Accepted.is
+    tested_low A.t A.id (known A.flags) no.UnknownFlags k.check-v.result (start k).well_formed.0 (tested k) c.in-Accepted.is
 
 of_node-node-requires : tie.Need-of_node-node-requires
 of_node-node-requires c κs = search rules

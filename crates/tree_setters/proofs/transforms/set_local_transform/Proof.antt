@@ -20,7 +20,7 @@ low : (c : tie.In-Accepted) → (start c.before).args.id.0 < 256
 low c =
     let k = c.before in
     let A = (start k).args in
-    tested_low A.t A.id (finite_affine A.tf) no.NotFinite k.test-v.result (start k).well-formed.0 k.test-v.ensures c.in-Accepted.is
+    tested_low A.t A.id (finite_affine A.tf) no.NotFinite k.test-v.result (start k).well_formed.0 k.test-v.ensures c.in-Accepted.is
 
 test-v-requires : tie.Need-test-v-requires
 test-v-requires c κs = search rules
@@ -42,10 +42,10 @@ overflow_cast-x c = search rules
 -- the stored value
 
 abbrev from_read : tie.After-affine_at-stored → tie.In-Accepted
-from_read c = c
+from_read c = c.before.before.before
 
 affine_at-stored-requires : tie.Need-affine_at-stored-requires
-affine_at-stored-requires c κs = low c
+affine_at-stored-requires c κs = low c.before.before
 
 eq-requires : tie.Need-eq-requires
 eq-requires c κs = search rules
@@ -54,9 +54,9 @@ returns-then-eq : tie.Need-returns-then-eq
 returns-then-eq c =
     let d = c.before.before in
     let e = from_read d in
-    let k = e.before.before in
+    let k = e.before in
     let A = (start k).args in
-    accepted (verdict k) k.test.result _ A.t k.test.ensures A.t e.enum_told.given.1
+    accepted (verdict k) k.test-v.result _ A.t k.test-v.ensures A.t e.in-Accepted.is
     (transform_stays A.t A.id.0 c.eq.result A.tf d.affine_at-stored.result d.affine_at-stored.ensures c.eq.ensures c.if-eq.true)
 
 put_affine-requires : tie.Need-put_affine-requires
@@ -75,9 +75,9 @@ returns c =
     let f = p.before.before in
     let d = f.before.before in
     let e = from_read d in
-    let k = e.before.before in
+    let k = e.before in
     let A = (start k).args in
-    accepted (verdict k) k.test.result _ A.t k.test.ensures _ e.enum_told.given.1
+    accepted (verdict k) k.test-v.result _ A.t k.test-v.ensures _ e.in-Accepted.is
     (transform_done A.t A.id.0 f.eq.result A.tf d.affine_at-stored.result d.affine_at-stored.ensures f.eq.ensures f.if-eq.false p.put_affine.new.a m.mark.new.marks c.mark-2.new.marks p.put_affine.ensures m.mark.ensures c.mark-2.ensures)
 
 pub set_local_transform_spec : {M : Type 1} → statement M

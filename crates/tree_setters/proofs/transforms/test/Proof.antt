@@ -38,16 +38,15 @@ returns-in_default : tie.Need-returns-in_default
 returns-in_default c =
     let h = c.before in
     let A = (start h.before).args in
-    let q = c.enum_told-in_default-1.given in
     let w = h.check-held.result in
-    checked_stopped (of_node A.t A.id) w (finite_affine A.tf) no.NotFinite q.0.0 (checked_stopped (held A.t) w (live A.t A.id) no.DeadNode q.0.0 (told h) q.1) q.1
+    checked_stopped (of_node A.t A.id) w (finite_affine A.tf) no.NotFinite c.in_default.field-0 (checked_stopped (held A.t) w (live A.t A.id) no.DeadNode c.in_default.field-0 (told h) c.in_default.is) c.in_default.is
 
 is_live-live-requires : tie.Need-is_live-live-requires
 is_live-live-requires c κs =
     let e = c in
-    let h = e.before.before in
-    let s = start h in
-    let l = sized s.args.t s.good.0 in
+    let h = e.before.before.before in
+    let s = start h.before in
+    let l = sized s.args.t s.well_formed.0 in
     live_needs s.args.t l (held_accepted s.args.t l (sym (told h) ∙ e.in-Accepted.is))
 
 check-node-requires : tie.Need-check-node-requires
@@ -64,7 +63,7 @@ unfolding live
 returns c =
     let k = c.before.before in
     let l = k.before in
-    rw (c.check.ensures, c.is_finite.ensures, k.check-node.ensures, l.is_live-live.ensures, ← told l.before.before.before.before.before)
+    rw (c.check.ensures, c.is_finite.ensures, k.check-node.ensures, l.is_live-live.ensures, ← told l.before.before.before.before)
 
 pub test_spec : {M : Type 1} → statement M
 test_spec =

@@ -60,7 +60,7 @@ loop-i-smaller : tie.Need-loop-i-smaller invariant-loop-i decreases-loop-i
 loop-i-smaller c = search rules
 
 loop-i-preserved : tie.Need-loop-i-preserved invariant-loop-i decreases-loop-i
-loop-i-preserved c = let L = c.loop-i in let A = c.args in (omega arith, rw (every_more (λ x. not (get_or A.committed.now x false) || owns_at A.mark.now A.index_generation.now A.payload.now (record { 0 = get_or A.slot.now x 0; 1 = get_or A.keys_generation.now x 0 }) (record { 0 = x; 1 = get_or A.slots-generation.now x 0 })) A.order.now L.i (omega (arith, c.requires.0, c.requires.1)), ← L.invariant.1, c.owner_right.ensures))
+loop-i-preserved c = let L = c.loop-i in let A = c.args in (omega arith, rw (every_more (λ x. not (get_or A.committed.now x false) || owns_at A.mark.now A.index_generation.now A.payload.now (record { 0 = get_or A.slot.now x 0; 1 = get_or A.keys_generation.now x 0 }) (record { 0 = x; 1 = get_or A.slots_generation.now x 0 })) A.order.now L.i (omega (arith, c.requires.0, c.requires.1)), ← L.invariant.1, c.owner_right.ensures))
 
 returns : tie.Need-returns invariant-loop-i decreases-loop-i
 returns c = let L = c.loop-i in let e : L.i ≡ c.args.count = omega arith in rw (← e) L.invariant.1

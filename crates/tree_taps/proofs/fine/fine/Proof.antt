@@ -1,5 +1,4 @@
 use native.Mathlib.Omega.{arith}
-use borrow.Author.Tests.{not-true, not-false}
 use Rattle.tree_taps.specs.order.Order.{Shown}
 use Rattle.tree_taps.specs.fine.Fine.{fine_at}
 use borrow.Author.Rules.{rules}
@@ -14,7 +13,7 @@ shown : (c : tie.Else-not-visited) → let A = c.args in Shown A.order.now A.cou
 shown c = c.requires.4 c.if-not-visited.false
 
 bounds-flags-x : tie.Need-bounds-flags-x
-bounds-flags-x c = (shown c).0
+bounds-flags-x c = (shown c.before).0
 
 contains-requires : tie.Need-contains-requires
 contains-requires c κs = search rules
@@ -27,7 +26,7 @@ returns-then-not-contains c =
     rw (y.if-not-visited.false, ← h.ensures, c.if-not-contains.true)
 
 reaches-requires : tie.Need-reaches-requires
-reaches-requires c κs = (shown c.before.before.before).0
+reaches-requires c κs = (shown c.before.before.before.before).0
 
 returns-then-not-reaches : tie.Need-returns-then-not-reaches
 unfolding fine_at
@@ -38,7 +37,7 @@ returns-then-not-reaches c =
     rw (y.if-not-visited.false, ← h.ensures, c.if-not-contains.false, ← r.ensures, c.if-not-reaches.true)
 
 overflow_cast-x : tie.Need-overflow_cast-x
-overflow_cast-x c = omega (arith, (shown c.before.before.before.before.before).0)
+overflow_cast-x c = omega (arith, (shown c.before.before.before.before.before.before).0)
 
 position-at-requires : tie.Need-position-at-requires
 position-at-requires c κs = search rules
@@ -48,7 +47,7 @@ in_clips-requires c κs =
     let y = c.before.before.before.before.before.before in
     let s = y.before in
     let e = c.position-at.ensures.1 in
-    let p = (shown y).1 in
+    let p = (shown y.before).1 in
     (omega (arith, s.requires.0), s.requires.1, s.requires.2, λ k h. s.requires.3 k (omega arith))
 
 returns : tie.Need-returns

@@ -2,7 +2,6 @@ use native.Mathlib.Omega.{arith}
 use mathlib.Core.Path.{◌≡◌, refl, sym, ap, ◌∙◌}
 use Prim.Native.Nat.{◌-◌, ◌≤◌, ◌<◌}
 use lib.ListN.{length}
-use borrow.Author.Tests.{not-true, not-false}
 use Rattle.tree_state.specs.Sound.{every_of}
 use Rattle.tree_taps.specs.fine.Fine.{clip_holds, above_at}
 use Rattle.tree_taps.proofs.fine.Climb.{back, turn_past, every_stop, every_on, every_none}

@@ -1,4 +1,4 @@
-use borrow.Author.Tests.{not-true, not-false, eq-eqb, ne_eqb}
+use borrow.Author.Tests.{eq-eqb, ne_eqb}
 use Rattle.tree_taps.specs.order.Order.{kept}
 use Rattle.tree_taps.proofs.order.keep.Statement.{statement}
 use Rattle.tree_taps.proofs.order.keep.Tie as tie

@@ -33,26 +33,26 @@ bounds-depth-at : tie.Need-bounds-depth-at invariant-loop-j decreases-loop-j
 bounds-depth-at c = search rules
 
 overflow_cast-len : tie.Need-overflow_cast-len invariant-loop-j decreases-loop-j
-overflow_cast-len c = let s = c.before.before in omega (arith, most s s.args.at s.requires.0, s.requires.0, s.requires.1)
+overflow_cast-len c = let s = c.before.before in omega (arith, most s.before s.args.at s.requires.0, s.requires.0, s.requires.1)
 
 id_of-own-requires : tie.Need-id_of-own-requires invariant-loop-j decreases-loop-j
 id_of-own-requires c κs = search rules
 
 overflow_sub-len : tie.Need-overflow_sub-len invariant-loop-j decreases-loop-j
-overflow_sub-len c = let s = c.before.before.before.before in omega (arith, one s s.args.at s.requires.0)
+overflow_sub-len c = let s = c.before.before.before.before in omega (arith, one s.before s.args.at s.requires.0)
 
 put_id-requires : tie.Need-put_id-requires invariant-loop-j decreases-loop-j
 put_id-requires c κs = let s = c.before.before.before.before in
-    let o = one s s.args.at s.requires.0 in
-    let m = most s s.args.at s.requires.0 in
+    let o = one s.before s.args.at s.requires.0 in
+    let m = most s.before s.args.at s.requires.0 in
     (omega (arith, o, m, s.requires.0, s.requires.1), omega (arith, o, m, s.requires.0, s.requires.1, s.requires.7))
 
 loop-j-init : tie.Need-loop-j-init invariant-loop-j decreases-loop-j
-loop-j-init c = let s = c.before.before.before.before.before.before.before in (omega arith, one s s.args.at s.requires.0, omega arith, refl, refl)
+loop-j-init c = let s = c.before.before.before.before.before.before.before in (omega arith, one s.before s.args.at s.requires.0, omega arith, refl, refl)
 
 -- the way back to the start, and the room's length
 abbrev to_start : tie.At-loop-j invariant-loop-j decreases-loop-j → tie.Start invariant-loop-j decreases-loop-j
-to_start c = c.before.before.before.before.before.before.before.before
+to_start c = c.before.before.before.before.before.before.before.before.before
 
 long : (c : tie.At-loop-j invariant-loop-j decreases-loop-j) → length c.loop-j.room ≡ length (to_start c).args.room.now
 long c =
@@ -70,7 +70,7 @@ bounds-depth-j : tie.Need-bounds-depth-j invariant-loop-j decreases-loop-j
 bounds-depth-j c = search rules
 
 overflow_cast-e : tie.Need-overflow_cast-e invariant-loop-j decreases-loop-j
-overflow_cast-e c = let l = c.before.before in let s = to_start l in omega (arith, most s (l.loop-j.j - 1) (omega (arith, l.loop-j.invariant.0, s.requires.0, c.loop-j-test.true)), l.loop-j.invariant.0, s.requires.0, s.requires.1)
+overflow_cast-e c = let l = c.before.before in let s = to_start l.before in omega (arith, most s (l.loop-j.j - 1) (omega (arith, l.loop-j.invariant.0, s.requires.0, c.loop-j-test.true)), l.loop-j.invariant.0, s.requires.0, s.requires.1)
 
 offset_bounds-order-j : tie.Need-offset_bounds-order-j invariant-loop-j decreases-loop-j
 offset_bounds-order-j c = search rules
@@ -79,18 +79,18 @@ bounds-order-j : tie.Need-bounds-order-j invariant-loop-j decreases-loop-j
 bounds-order-j c = search rules
 
 id_of-next-requires : tie.Need-id_of-next-requires invariant-loop-j decreases-loop-j
-id_of-next-requires c κs = let l = c.before.before.before.before in (to_start l).requires.6 (l.loop-j.j - 1) (omega (arith, l.loop-j.invariant.0, (to_start l).requires.0, c.loop-j-test.true))
+id_of-next-requires c κs = let l = c.before.before.before.before in (to_start l.before.before).requires.6 (l.loop-j.j - 1) (omega (arith, l.loop-j.invariant.0, (to_start l.before.before).requires.0, c.loop-j-test.true))
 
 overflow_sub-d : tie.Need-overflow_sub-d invariant-loop-j decreases-loop-j
-overflow_sub-d c = let l = c.before.before.before.before.before.before in one (to_start l) (l.loop-j.j - 1) (omega (arith, l.loop-j.invariant.0, (to_start l).requires.0, c.loop-j-test.true))
+overflow_sub-d c = let l = c.before.before.before.before.before.before in one (to_start l.before.before) (l.loop-j.j - 1) (omega (arith, l.loop-j.invariant.0, (to_start l.before.before).requires.0, c.loop-j-test.true))
 
 put_id-requires-then-e-d : tie.Need-put_id-requires-then-e-d invariant-loop-j decreases-loop-j
 put_id-requires-then-e-d c κs =
     let l = c.before.before.before.before.before.before in
-    let s = to_start l in
+    let s = to_start l.before.before in
     let h = c.loop-j-test.true in
     let m = most s (l.loop-j.j - 1) (omega (arith, l.loop-j.invariant.0, s.requires.0, h)) in
-    (omega (arith, m, l.loop-j.invariant.0, s.requires.0, s.requires.1, h), omega (arith, m, l.loop-j.invariant.0, s.requires.0, s.requires.1, h, long l, s.requires.7))
+    (omega (arith, m, l.loop-j.invariant.0, s.requires.0, s.requires.1, h), omega (arith, m, l.loop-j.invariant.0, s.requires.0, s.requires.1, h, long l.before.before, s.requires.7))
 
 loop-j-smaller-then-e-d : tie.Need-loop-j-smaller-then-e-d invariant-loop-j decreases-loop-j
 loop-j-smaller-then-e-d c = search rules
@@ -99,7 +99,7 @@ loop-j-preserved-then-e-d : tie.Need-loop-j-preserved-then-e-d invariant-loop-j 
 loop-j-preserved-then-e-d c =
     let l = c.before.before.before.before.before.before.before.before.before in
     let L = l.loop-j in
-    let s = to_start l in
+    let s = to_start l.before.before in
     let A = s.args in
     let h = c.loop-j-test.true in
     let P = c.put_id-then-e-d in
@@ -108,7 +108,7 @@ loop-j-preserved-then-e-d c =
       one s (L.j - 1) (omega (arith, L.invariant.0, s.requires.0, h)),
       omega arith,
       ap length E ∙ put_length L.room (get_or A.depth.now (L.j - 1) 0 - 1) (id_of A.generation.now (get_or A.order.now (L.j - 1) 0)) ∙ L.invariant.3,
-      path_turn (id_of A.generation.now) A.count A.order.now A.depth.now s.requires.1 (omega (arith, s.requires.1, s.requires.3)) (omega (arith, s.requires.1, s.requires.4)) s.requires.5 L.room P.new.room _ L.d L.j (omega (arith, h)) (omega (arith, L.invariant.0, s.requires.0)) c.if-e-d.true (omega (arith, long l, s.requires.7)) L.invariant.4 E,
+      path_turn (id_of A.generation.now) A.count A.order.now A.depth.now s.requires.1 (omega (arith, s.requires.1, s.requires.3)) (omega (arith, s.requires.1, s.requires.4)) s.requires.5 L.room P.new.room _ L.d L.j (omega (arith, h)) (omega (arith, L.invariant.0, s.requires.0)) c.if-e-d.true (omega (arith, long l.before.before, s.requires.7)) L.invariant.4 E,
     )
 
 loop-j-smaller : tie.Need-loop-j-smaller invariant-loop-j decreases-loop-j
@@ -118,7 +118,7 @@ loop-j-preserved : tie.Need-loop-j-preserved invariant-loop-j decreases-loop-j
 loop-j-preserved c =
     let l = c.before.before.before in
     let L = l.loop-j in
-    let s = to_start l in
+    let s = to_start l.before in
     let A = s.args in
     let h = c.loop-j-test.true in (
       omega (arith, L.invariant.0),

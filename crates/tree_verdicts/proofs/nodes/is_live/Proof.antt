@@ -32,10 +32,10 @@ offset_bounds-generation-x : tie.Need-offset_bounds-generation-x
 offset_bounds-generation-x c = search rules
 
 bounds-generation-x : tie.Need-bounds-generation-x
-bounds-generation-x c = omega (arith, c.requires.2 c.args.i.0 (found c.before))
+bounds-generation-x c = omega (arith, c.requires.2 c.args.i.0 (found c.before.before))
 
 returns : tie.Need-returns
-returns c = rw (found c.before.before.before)
+returns c = rw (found c.before.before.before.before)
 
 pub is_live_spec : {M : Type 1} → statement M
 is_live_spec =

@@ -44,20 +44,20 @@ sound : (c : tie.In-Accepted) → Held (start c.before.before).args.t
 sound c =
     let h = c.before in
     let s = start h.before in
-    held_accepted s.args.t (sized s.args.t s.good.0) (sym (told h) ∙ c.in-Accepted.is)
+    held_accepted s.args.t (sized s.args.t s.well_formed.0) (sym (told h) ∙ c.in-Accepted.is)
 
 is_live-live-requires : tie.Need-is_live-live-requires
 is_live-live-requires c κs =
     let e = c in
-    let s = start e in
-    live_needs s.args.t (sized s.args.t s.good.0) (sound e)
+    let s = start e.before.before.before.before in
+    live_needs s.args.t (sized s.args.t s.well_formed.0) (sound e.before.before)
 
 check-requires : tie.Need-check-requires
 check-requires c κs = search rules
 
 returns : tie.Need-returns
 unfolding live
-returns c = rw (c.check.ensures, c.is_live-live.ensures, ← told c.before.before.before.before.before.before)
+returns c = rw (c.check.ensures, c.is_live-live.ensures, ← told c.before.before.before.before.before)
 
 pub of_node_spec : {M : Type 1} → statement M
 of_node_spec =

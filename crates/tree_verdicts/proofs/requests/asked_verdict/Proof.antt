@@ -21,15 +21,15 @@ abbrev tree : tie.Start → Tree → Tree
 tree s t =
     let A = s.args in
     lent.tree
-    (lent.slots A.slots-generation.now A.slots_used A.slots_free.now A.slots-frees)
-    (lent.links A.order.now A.depth.now A.links-count)
-    (lent.locals A.locals-bounds.now A.slop.now A.locals-transform.now A.kind.now A.locals-clip.now t.locals.level A.flags.now)
-    (lent.worlds t.worlds.transform t.worlds.clipped t.worlds.clip A.worlds-bounds.now A.hit_bounds.now)
-    (lent.marks A.marked.now A.marks-transform.now A.marks-clip.now)
+    (lent.slots A.slots_generation.now A.slots_used A.slots_free.now A.slots_frees)
+    (lent.links A.order.now A.depth.now A.links_count)
+    (lent.locals A.locals_bounds.now A.slop.now A.locals_transform.now A.kind.now A.locals_clip.now t.locals.level A.flags.now)
+    (lent.worlds t.worlds.transform t.worlds.clipped t.worlds.clip A.worlds_bounds.now A.hit_bounds.now)
+    (lent.marks A.marked.now A.marks_transform.now A.marks_clip.now)
     (lent.keys A.committed.now A.slot.now A.keys_generation.now)
     (lent.pending t.pending.rects A.pending_count)
-    (lent.index A.index_generation.now A.mark.now A.payload.now t.index.aabb t.index.kept t.index.prev A.index-used
-    A.index_free.now A.index-frees A.dirty.now A.queued t.index.backend)
+    (lent.index A.index_generation.now A.mark.now A.payload.now t.index.aabb t.index.kept t.index.prev A.index_used
+    A.index_free.now A.index_frees A.dirty.now A.queued t.index.backend)
 
 sizes : (s : tie.Start) (t : Tree) → Sized (tree s t)
 sizes s t = record { order = s.requires.0; depth = s.requires.1; free = s.requires.2; mark = s.requires.3; entries_free = s.requires.4; dirty = s.requires.5 }
@@ -91,7 +91,7 @@ unfolding needs_commit
 returns c =
     λ t.
     let h = c.before.before.before.before.before in
-    rw (c.check.ensures, c.needs-need.ensures, c.check-known.ensures, c.is_Known.ensures, ← told h t)
+    rw (c.check.ensures, c.needs-need.ensures, c.check-known.ensures, c.is_known.ensures, ← told h t)
 
 pub asked_verdict_spec : {M : Type 1} → statement M
 asked_verdict_spec =

@@ -1,8 +1,7 @@
 -- the tables' lengths
-use mathlib.Core.Path.{◌≡◌, sym, ◌∙◌}
+use mathlib.Core.Path.{◌≡◌, sym, ◌∙◌, ap}
 use mathlib.Core.Bool.{false, not}
 use lib.ListN.{length}
-use borrow.Author.Tests.{not-false}
 use borrow.Author.Rules.{rules}
 use Rattle.index_state.proofs.Calls.{unsound, commit_short, commit_long, refuses, long, rooms_stay, rooms_done, commit_done}
 use Rattle.index_state.specs.Index.{sound_index, work_of}
@@ -30,7 +29,7 @@ returns-then-not-is_sound : tie.Need-returns-then-not-is_sound
 returns-then-not-is_sound c =
     let A = c.args in
     let call = commit (length A.added.now) (length A.removed.now) (length A.old.now) (length A.new.now) in
-    let e = unsound A.ix (rw (← c.is_sound.ensures) c.if-not-is_sound.true) call in
+    let e = unsound A.ix (rw (← c.is_sound.ensures) (ap not c.if-not-is_sound.true)) call in
     let R = refuses A.ix call 0 e in
     (R.0, (R.1, rooms_stay A.ix A.added.now A.removed.now A.old.now A.new.now 0 e))
 
@@ -53,13 +52,13 @@ returns-then-short : tie.Need-returns-then-short
 returns-then-short c =
     let A = c.args in
     let call = commit (length A.added.now) (length A.removed.now) (length A.old.now) (length A.new.now) in
-    let S : not (sound_index A.ix) ≡ false = rw (← c.is_sound.ensures) c.if-not-is_sound.false in
+    let S : not (sound_index A.ix) ≡ false = rw (← c.is_sound.ensures) (ap not c.if-not-is_sound.false) in
     let e = commit_short A.ix S (length A.added.now) (length A.removed.now) (length A.old.now) (length A.new.now) (sym c.short.ensures ∙ c.if-short.true) in
     let R = refuses A.ix call 7 e in
     (R.0, (R.1, rooms_stay A.ix A.added.now A.removed.now A.old.now A.new.now 7 e))
 
 commit_slots-d-requires : tie.Need-commit_slots-d-requires
-commit_slots-d-requires c κs = let S = c.before.before.before.before.before.before.before.before.before.before.before.before.before.before.before.before.before.before.before.before.before.before.before.before.before.before.before.before.before.before.before.before.before.before in let A = S.args in let l = long (length A.added.now) (length A.removed.now) (length A.old.now) (length A.new.now) (sym c.short.ensures ∙ c.if-short.false) in ((lens S).0, (lens S).1, (lens S).2, l.0, l.1, l.2, l.3, (A.ix.used, sound_here c.before.before.before.before.before.before.before.before.before.before.before.before.before.before.before.before.before.before.before.before))
+commit_slots-d-requires c κs = let S = c.before.before.before.before.before.before.before.before.before.before.before.before.before.before.before.before.before.before.before.before.before.before.before.before.before.before.before.before.before.before.before.before.before.before in let A = S.args in let l = long (length A.added.now) (length A.removed.now) (length A.old.now) (length A.new.now) (sym c.short.ensures ∙ c.if-short.false) in ((lens S).0, (lens S).1, (lens S).2, l.0, l.1, l.2, l.3, (A.ix.used, sound_here c.before.before.before.before.before.before.before.before.before.before.before.before.before.before.before.before))
 
 shape_of-added : tie.Need-shape_of-added
 shape_of-added c = search rules
@@ -77,7 +76,7 @@ returns : tie.Need-returns
 unfolding work_of
 returns c =
     let A = c.args in
-    let S : not (sound_index A.ix) ≡ false = rw (← c.is_sound.ensures) c.if-not-is_sound.false in
+    let S : not (sound_index A.ix) ≡ false = rw (← c.is_sound.ensures) (ap not c.if-not-is_sound.false) in
     let F = sym c.short.ensures ∙ c.if-short.false in
     let e = commit_long A.ix S (length A.added.now) (length A.removed.now) (length A.old.now) (length A.new.now) F in
     let T = c.commit_slots-d in

@@ -1,9 +1,9 @@
 -- the tables' lengths
-use mathlib.Core.Path.{◌≡◌, sym, ◌∙◌}
+use mathlib.Core.Path.{◌≡◌, sym, ◌∙◌, ap}
 use Prim.Native.Nat.{◌<◌}
 use mathlib.Core.Bool.{false, not}
 use lib.ListN.{length}
-use borrow.Author.Tests.{eq-eqb, leb-false, not-false}
+use borrow.Author.Tests.{eq-eqb, leb-false}
 use borrow.Author.Rules.{rules}
 use Rattle.index_state.proofs.Calls.{unsound, insert_full, refuses, insert_done}
 use Rattle.index_state.specs.Index.{sound_index}
@@ -32,12 +32,12 @@ returns-then-not-is_sound : tie.Need-returns-then-not-is_sound
 returns-then-not-is_sound c =
     let A = c.args in
     let call = insert A.aabb A.payload in
-    refuses A.ix call 0 (unsound A.ix (rw (← c.is_sound.ensures) c.if-not-is_sound.true) call)
+    refuses A.ix call 0 (unsound A.ix (rw (← c.is_sound.ensures) (ap not c.if-not-is_sound.true)) call)
 
 returns-then-frees-used : tie.Need-returns-then-frees-used
 returns-then-frees-used c =
     let A = c.args in
-    let S : not (sound_index A.ix) ≡ false = rw (← c.is_sound.ensures) c.if-not-is_sound.false in
+    let S : not (sound_index A.ix) ≡ false = rw (← c.is_sound.ensures) (ap not c.if-not-is_sound.false) in
     refuses A.ix (insert A.aabb A.payload) 10 (insert_full A.ix S A.aabb A.payload c.if-frees-used.true)
 
 -- a slot is left
@@ -58,7 +58,7 @@ returns : tie.Need-returns
 returns c =
     let A = c.args in
     let E = c.insert_entry-t.ensures in
-    insert_done A.ix A.aabb A.payload (rw (← c.is_sound.ensures) c.if-not-is_sound.false) c.if-frees-used.false _ _ _ _ _ _ _ _ _ _ _
+    insert_done A.ix A.aabb A.payload (rw (← c.is_sound.ensures) (ap not c.if-not-is_sound.false)) c.if-frees-used.false _ _ _ _ _ _ _ _ _ _ _
     E.0 E.1.0 E.1.1.0 E.1.1.1.0 E.1.1.1.1.0 E.1.1.1.1.1.0 E.1.1.1.1.1.1.0 E.1.1.1.1.1.1.1.0 E.1.1.1.1.1.1.1.1.0 E.1.1.1.1.1.1.1.1.1.0 E.1.1.1.1.1.1.1.1.1.1
 
 pub insert_spec : {M : Type 1} → statement M

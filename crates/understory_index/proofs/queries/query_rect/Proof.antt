@@ -1,4 +1,4 @@
-use mathlib.Core.Path.{◌≡◌}
+use mathlib.Core.Path.{◌≡◌, ap}
 use mathlib.Core.Bool.{false, not}
 use lib.ListN.{length}
 use borrow.Author.Tests.{lt-ltb, le-ltb}
@@ -17,14 +17,14 @@ unfolding refusal
 returns-then-not-is_sound c =
     let A = c.args in
     let call = query_rect A.rect (length A.room.now) in
-    let e = unsound A.ix (rw (← c.is_sound.ensures) c.if-not-is_sound.true) call in
+    let e = unsound A.ix (rw (← c.is_sound.ensures) (ap not c.if-not-is_sound.true)) call in
     ((refuses A.ix call 0 e).0, room_stays A.ix (rect_slots A.ix A.rect) A.room.now 0 e)
 
 returns-then-room-lt2048 : tie.Need-returns-then-room-lt2048
 unfolding refusal
 returns-then-room-lt2048 c =
     let A = c.args in
-    let S : not (sound_index A.ix) ≡ false = rw (← c.is_sound.ensures) c.if-not-is_sound.false in
+    let S : not (sound_index A.ix) ≡ false = rw (← c.is_sound.ensures) (ap not c.if-not-is_sound.false) in
     let e = query_short A.ix S (length A.room.now) (lt-ltb (length A.room.now) 2048 c.if-room-lt2048.true) in
     ((refuses A.ix (query_rect A.rect (length A.room.now)) 7 e).0, room_stays A.ix (rect_slots A.ix A.rect) A.room.now 7 e)
 
@@ -39,8 +39,8 @@ unfolding rect_slots
 returns c =
     let L = c.before.before.before.before.before.before.before.before.before.before in
     let A = L.args in
-    let S : not (sound_index A.ix) ≡ false = rw (← L.is_sound.ensures) L.if-not-is_sound.false in
-    let e = query_long A.ix S (length A.room.now) (le-ltb (length A.room.now) 2048 L.if2.false) in
+    let S : not (sound_index A.ix) ≡ false = rw (← L.is_sound.ensures) (ap not L.if-not-is_sound.false) in
+    let e = query_long A.ix S (length A.room.now) (le-ltb (length A.room.now) 2048 c.if-room-lt2048.false) in
     let T = c.visit_rect.ensures in
     query_done A.ix A.rect A.room.now _ _ e T.0 T.1
 

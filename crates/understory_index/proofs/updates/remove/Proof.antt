@@ -1,8 +1,7 @@
 -- the tables' lengths
-use mathlib.Core.Path.{◌≡◌, sym, ◌∙◌}
+use mathlib.Core.Path.{◌≡◌, sym, ◌∙◌, ap}
 use mathlib.Core.Bool.{false, not}
 use lib.ListN.{length}
-use borrow.Author.Tests.{not-false}
 use borrow.Author.Rules.{rules}
 use Rattle.index_state.proofs.Calls.{unsound, remove_dead, refuses, remove_done}
 use Rattle.index_state.specs.Index.{sound_index}
@@ -31,7 +30,7 @@ is_sound-requires c κs = search rules
 returns-then-not-is_sound : tie.Need-returns-then-not-is_sound
 returns-then-not-is_sound c =
     let A = c.args in
-    refuses A.ix (remove A.key) 0 (unsound A.ix (rw (← c.is_sound.ensures) c.if-not-is_sound.true) (remove A.key))
+    refuses A.ix (remove A.key) 0 (unsound A.ix (rw (← c.is_sound.ensures) (ap not c.if-not-is_sound.true)) (remove A.key))
 
 look_up-found-requires : tie.Need-look_up-found-requires
 look_up-found-requires c κs = search rules
@@ -46,7 +45,7 @@ returns-in_default : tie.Need-returns-in_default
 returns-in_default c =
     let A = c.args in
     let ix = A.ix in
-    let S : not (sound_index A.ix) ≡ false = rw (← c.is_sound.ensures) c.if-not-is_sound.false in
+    let S : not (sound_index A.ix) ≡ false = rw (← c.is_sound.ensures) (ap not c.if-not-is_sound.false) in
     let D = look_dead ix.generation ix.mark ix.payload ix.aabb ix.kept ix.prev A.key (sym c.look_up-found.ensures ∙ c.in_default.is) in
     refuses ix (remove A.key) 9 (remove_dead ix S A.key D)
 
@@ -54,7 +53,7 @@ remove_entry-lengths-requires : tie.Need-remove_entry-lengths-requires
 remove_entry-lengths-requires c κs = let S = c.before.before.before.before.before.before.before.before.before.before.before.before.before.before.before.before.before.before.before.before.before.before.before.before.before in let ix = S.args.ix in let C = count_here c.before.before.before.before.before.before.before.before.before.before.before in let L = look_live ix.generation ix.mark ix.payload ix.aabb ix.kept ix.prev S.args.key _ (sym c.look_up-found.ensures ∙ c.in-Live.is) in let l = live_slot ix.generation ix.mark S.args.key L.0 in (l.0, C.queue_fits, (lens S).2, queue_room ix.dirty ix.queued (queue_of ix.mark ix.free ix.frees ix.dirty ix.queued ix.used C (lens S).0) (lens S).2 S.args.key.0 l.0, λ a. free_room ix.mark ix.free ix.frees ix.dirty ix.queued ix.used C (lens S).0 S.args.key.0 l.1 l.0 (lens S).1)
 
 returns : tie.Need-returns
-returns c = let S = c.before.before.before.before.before.before.before.before.before.before.before.before.before.before.before.before.before.before.before.before.before.before.before.before.before.before in let ix = S.args.ix in let L = look_live ix.generation ix.mark ix.payload ix.aabb ix.kept ix.prev S.args.key _ (sym c.look_up-found.ensures ∙ c.in-Live.is) in let T = c.remove_entry-lengths.ensures in remove_done ix S.args.key (rw (← c.is_sound.ensures) c.if-not-is_sound.false) L.0 _ _ _ _ _ _ L.1 T.0 T.1.0 T.1.1.1.0 T.1.1.0 T.1.1.1.1
+returns c = let S = c.before.before.before.before.before.before.before.before.before.before.before.before.before.before.before.before.before.before.before.before.before.before.before.before.before.before in let ix = S.args.ix in let L = look_live ix.generation ix.mark ix.payload ix.aabb ix.kept ix.prev S.args.key _ (sym c.look_up-found.ensures ∙ c.in-Live.is) in let T = c.remove_entry-lengths.ensures in remove_done ix S.args.key (rw (← c.is_sound.ensures) (ap not c.if-not-is_sound.false)) L.0 _ _ _ _ _ _ L.1 T.0 T.1.0 T.1.1.1.0 T.1.1.0 T.1.1.1.1
 
 pub remove_spec : {M : Type 1} → statement M
 remove_spec =
