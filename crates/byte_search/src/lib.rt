@@ -4,7 +4,7 @@
 ghost use Rattle.std.specs.Prelude.{◌≡◌, ◌+◌, ◌≤◌, ◌++◌, length, take, drop, min};
 ghost use Rattle.byte_search.specs.Bytes.{slice, index_of};
 
-// The first index in from..to at which `s` has `b`, else `to`.
+// Inner: the first index in from..to at which `s` has `b`, else `to`.
 pub fn find(s: &[u8], from: usize, to: usize, b: u8) -> usize
     requires from_le_to { from ≤ to }
     requires to_in_bounds { to ≤ length s.now }
