@@ -388,7 +388,7 @@ module _ (t : Tree) (p : Plan) (K : Known t p) (i : NodeId) where
       set_known t p K x (store_level t.locals x z) t.marks (with_level z (p.local x)) (p.mark x) (sets_level t p K x (of_node_lem t p K i e) z) k.0 k.1
 
   pub flags_known : (f : NodeFlags) → flags_verdict t i f ≡ is.Accepted
-      → Known (set_flags t i.0 f) (accepted p (call.set_flags_lem i f))
+      → Known (set_flags t i.0 f) (accepted p (call.set_flags i f))
   unfolding set_flags accepted
   flags_known f e =
       let x = i.0 in

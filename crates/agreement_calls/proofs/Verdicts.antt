@@ -194,7 +194,7 @@ module _ (t : Tree) (p : Plan) (K : Known t p) where
   unfolding refusal
   level_refused i z = of_node_refused i
 
-  pub flags_refused : (i : NodeId) (f : NodeFlags) → number_in (set.flags_verdict t i f) ≡ refusal p (call.set_flags_lem i f)
+  pub flags_refused : (i : NodeId) (f : NodeFlags) → number_in (set.flags_verdict t i f) ≡ refusal p (call.set_flags i f)
   unfolding refusal number_of
   flags_refused i f = of_node_and i (known f) no.UnknownFlags
 
@@ -223,6 +223,6 @@ module _ (t : Tree) (p : Plan) (K : Known t p) where
   world_reading_refused r i e = of_node_and i (not (tree.needs_commit t)) no.NeedsCommit ∙ rw (e, needs_same t p K)
 
   pub children_reading_refused : (i : NodeId) (room : List ℕ)
-      → number_in (checked (set.of_node t i) (not (ltb (length room) 512)) no.ShortRoom) ≡ refusal p (call.read (call.children_of_lem i room))
+      → number_in (checked (set.of_node t i) (not (ltb (length room) 512)) no.ShortRoom) ≡ refusal p (call.read (call.children_of i room))
   unfolding refusal number_of
   children_reading_refused i room = of_node_and i (not (ltb (length room) 512)) no.ShortRoom

@@ -351,7 +351,7 @@ accepted_shows t p s M H (call.set_hit_slop i w) e =
     shows_set (insets_eq (insets_at t.locals.slop x) w) t (set.store_slop t.locals x w) (set.mark_alone t.marks x) (insets_eq v.hit_slop w) p x
     (local.with_slop w v) plan.mark_alone s H
 accepted_shows t p s M H (call.set_z_index i z) e = stays t (set.set_level t i.0 z) p _ s refl refl (λ y h. h) H
-accepted_shows t p s M H (call.set_flags_lem i f) e = stays t (set.set_flags t i.0 f) p _ s refl refl (λ y h. h) H
+accepted_shows t p s M H (call.set_flags i f) e = stays t (set.set_flags t i.0 f) p _ s refl refl (λ y h. h) H
 accepted_shows t p s M H (call.commit room) e = shows_commit t p M
 accepted_shows t p s M H (call.read r) e = H
 accepted_shows t p s M H (call.request q asked room) e = H
@@ -409,7 +409,7 @@ in_room t room rs ok e few areas =
     record {
       counted = rw (ok, e);
       few = few;
-      in_front_lem = rw front (rects_front rs room);
+      in_front = rw front (rects_front rs room);
       behind = rw front behind;
       as_long = rw front as_long;
       area = λ i h. areas_read (commit_room t room) (length rs) (rw (front, rects_front rs room) areas) i h;

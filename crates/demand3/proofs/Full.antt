@@ -110,13 +110,13 @@ module _ (t : Tree) (w : Whole t) (S : SoundTree t) (parent : OptionNodeId) (v :
       let b = checked_both second (known v.flags) no.UnknownFlags a.0 in
       let c = checked_both first (finite_local v) no.NotFinite b.0 in
       let d = checked_both (held t) (parent_live t parent) no.DeadParent c.0 in (
-        record { parent_live_lem = d.1; finite = c.1; flags_known = b.1 },
+        record { parent_live = d.1; finite = c.1; flags_known = b.1 },
         omega (arith, all_live t w S, ltb-false t.links.count 256 a.1, S.count_fits),
       )
 
   by_count : (b : Bool) → ltb t.links.count 256 ≡ b → Insertable t parent v → (tree.outcome t (call.insert parent v)).refused ≡ number_in (checked_next b no.Full)
   unfolding checked checked_next
-  by_count b e I = refused_is ∙ ap number_in (rw (sound, I.parent_live_lem, I.finite, I.flags_known, e))
+  by_count b e I = refused_is ∙ ap number_in (rw (sound, I.parent_live, I.finite, I.flags_known, e))
 
   always : Insertable t parent v → live_nodes t ≡ 256 → (tree.outcome t (call.insert parent v)).refused ≡ 9
   unfolding checked_next number_in number_of

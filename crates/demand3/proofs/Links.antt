@@ -82,18 +82,18 @@ module _ (calls : List Call) where
   -- what `children_of` tells: refused as the plan refuses it, or the ids of the plan's children, read back from the room after the call
   pub children_told_lem : (i : NodeId) (room : List ℕ)
       → children_told (reads.children_call t i (length room)) (reads.children_room t i room)
-      ≡ answer_if (call.refusal p (call.read (call.children_of_lem i room))) (listed (map (id_of p) (children i.0 p.links)))
+      ≡ answer_if (call.refusal p (call.read (call.children_of i room))) (listed (map (id_of p) (children i.0 p.links)))
   unfolding call.refusal
   children_told_lem i room =
       let v = children_verdict t i (length room) in
       children_is v (children_of t i.0) room
-      ∙ answer_with v (call.refusal p (call.read (call.children_of_lem i room))) (listed (children_of t i.0)) (listed (map (id_of p) (children i.0 p.links)))
+      ∙ answer_with v (call.refusal p (call.read (call.children_of i room))) (listed (children_of t i.0)) (listed (map (id_of p) (children i.0 p.links)))
       (children_reading_refused t p (meets_after calls).known i room) (λ e. ap listed (children_after i.0 (node_there p i (room_for_ids (length room) else 8 then accept) e)))
 
   module _ (i : NodeId) where
-    pub parent_told : Answered calls (call.parent_of_lem i) → reads.parent_call t i ≡ reads.link_of (first_of p (above i.0 p.links))
+    pub parent_told : Answered calls (call.parent_of i) → reads.parent_call t i ≡ reads.link_of (first_of p (above i.0 p.links))
     unfolding reads.node_if call.refusal
-    parent_told h = rw (accepted calls (call.parent_of_lem i) h, parent_after i.0 (node_there p i accept h))
+    parent_told h = rw (accepted calls (call.parent_of i) h, parent_after i.0 (node_there p i accept h))
 
     pub next_told : Answered calls (call.next_depth_first i) → reads.next_call t i ≡ reads.link_of (node_on p (next 256 p.links i.0))
     unfolding reads.node_if call.refusal

@@ -126,10 +126,10 @@ module _ (calls : List Call) where
     unfolding reads.transform_if call.refusal
     world_transform h = rw (accepted (call.world_transform i) h) (ap (λ (w : Placed). transform.Value w.transform) ((right h).place i.0 (world_there h)))
 
-    pub world_bounds_lem : Answered (call.world_bounds_lem i) → reads.world_bounds_call t i ≡ rect.Value (world_bounds p i.0)
+    pub world_bounds_lem : Answered (call.world_bounds i) → reads.world_bounds_call t i ≡ rect.Value (world_bounds p i.0)
     unfolding reads.rect_if call.refusal
-    world_bounds_lem h = rw (accepted (call.world_bounds_lem i) h, ((right h).boxes i.0 (world_there h)).bounds)
+    world_bounds_lem h = rw (accepted (call.world_bounds i) h, ((right h).boxes i.0 (world_there h)).bounds)
 
-    pub world_hit_bounds_lem : Answered (call.world_hit_bounds_lem i) → reads.world_hit_bounds_call t i ≡ rect.Value (world_hit_bounds p i.0)
+    pub world_hit_bounds_lem : Answered (call.world_hit_bounds i) → reads.world_hit_bounds_call t i ≡ rect.Value (world_hit_bounds p i.0)
     unfolding reads.rect_if call.refusal
-    world_hit_bounds_lem h = rw (accepted (call.world_hit_bounds_lem i) h, ((right h).boxes i.0 (world_there h)).hit_bounds)
+    world_hit_bounds_lem h = rw (accepted (call.world_hit_bounds i) h, ((right h).boxes i.0 (world_there h)).hit_bounds)

@@ -60,7 +60,7 @@ module _ (t : Tree) (s : Sized t) where
 
   reading_one : (r : Reading) → One (reading_verdict t r)
   unfolding number_of
-  reading_one call.needs_commit_lem = held_one
+  reading_one call.needs_commit = held_one
   reading_one (call.is_alive i) = held_one
   reading_one (call.local_transform i) = node_one i
   reading_one (call.local_clip i) = node_one i
@@ -68,13 +68,13 @@ module _ (t : Tree) (s : Sized t) where
   reading_one (call.hit_slop i) = node_one i
   reading_one (call.z_index i) = node_one i
   reading_one (call.flags i) = node_one i
-  reading_one (call.parent_of_lem i) = node_one i
-  reading_one (call.children_of_lem i room) = next (set.of_node t i) _ no.ShortRoom (λ e. omega arith) (node_one i)
+  reading_one (call.parent_of i) = node_one i
+  reading_one (call.children_of i room) = next (set.of_node t i) _ no.ShortRoom (λ e. omega arith) (node_one i)
   reading_one (call.next_depth_first i) = node_one i
   reading_one (call.prev_depth_first i) = node_one i
   reading_one (call.world_transform i) = next (set.of_node t i) _ no.NeedsCommit (λ e. omega arith) (node_one i)
-  reading_one (call.world_bounds_lem i) = next (set.of_node t i) _ no.NeedsCommit (λ e. omega arith) (node_one i)
-  reading_one (call.world_hit_bounds_lem i) = next (set.of_node t i) _ no.NeedsCommit (λ e. omega arith) (node_one i)
+  reading_one (call.world_bounds i) = next (set.of_node t i) _ no.NeedsCommit (λ e. omega arith) (node_one i)
+  reading_one (call.world_hit_bounds i) = next (set.of_node t i) _ no.NeedsCommit (λ e. omega arith) (node_one i)
 
   verdict_one : (c : Call) → One (verdict t c)
   unfolding verdict number_of
@@ -89,7 +89,7 @@ module _ (t : Tree) (s : Sized t) where
   verdict_one (call.set_local_bounds i r) = value_one i _
   verdict_one (call.set_hit_slop i s) = value_one i _
   verdict_one (call.set_z_index i z) = node_one i
-  verdict_one (call.set_flags_lem i f) = next _ _ no.UnknownFlags (λ e. omega arith) (node_one i)
+  verdict_one (call.set_flags i f) = next _ _ no.UnknownFlags (λ e. omega arith) (node_one i)
   verdict_one (call.commit room) = next _ _ no.ShortRoom (λ e. omega arith) held_one
   verdict_one (call.read r) = reading_one r
   verdict_one (call.request q asked room) =

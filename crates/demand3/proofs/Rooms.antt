@@ -165,16 +165,16 @@ module _ (calls : List Call) where
       ∙ ap (λ (v : Verdict). damage_if v (commit_tree t).damage) (zero_accepted (commit_verdict t (length room)) (number_same (call.commit room) ∙ h))
 
   -- ---- ids
-  pub children_left : (i : NodeId) (room : List ℕ) → (refusal p (call.read (call.children_of_lem i room)) ≡ 0 → ⊥) → children_room t i room ≡ room
+  pub children_left : (i : NodeId) (room : List ℕ) → (refusal p (call.read (call.children_of i room)) ≡ 0 → ⊥) → children_room t i room ≡ room
   unfolding verdict
   children_left i room h =
-      let q = refused_by (call.read (call.children_of_lem i room)) h in
+      let q = refused_by (call.read (call.children_of i room)) h in
       ids_left q.0 (children_verdict t i (length room)) (children_of t i.0) room q.1
 
-  pub children_behind : (i : NodeId) (room : List ℕ) → refusal p (call.read (call.children_of_lem i room)) ≡ 0 → Behind (children_of t i.0) room (children_room t i room)
+  pub children_behind : (i : NodeId) (room : List ℕ) → refusal p (call.read (call.children_of i room)) ≡ 0 → Behind (children_of t i.0) room (children_room t i room)
   unfolding verdict
   children_behind i room h =
-      let e = zero_accepted (children_verdict t i (length room)) (number_same (call.read (call.children_of_lem i room)) ∙ h) in
+      let e = zero_accepted (children_verdict t i (length room)) (number_same (call.read (call.children_of i room)) ∙ h) in
       let b = (checked_both (of_node t i) (not (ltb (length room) 512)) no.ShortRoom e).1 in
       ids_behind (children_verdict t i (length room)) (children_of t i.0) room e (children_few t (meets_after calls).known.whole i.0)
       (ltb-false (length room) 512 (not-true (ltb (length room) 512) b))

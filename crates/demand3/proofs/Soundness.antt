@@ -51,7 +51,7 @@ accepted_keeps t w S (call.set_local_clip i c) e = setters.keep_set_clip t i c w
 accepted_keeps t w S (call.set_local_bounds i r) e = setters.keep_set_bounds t i r w S e
 accepted_keeps t w S (call.set_hit_slop i s) e = setters.keep_set_slop t i s w S e
 accepted_keeps t w S (call.set_z_index i z) e = setters.keep_set_level t i z w S e
-accepted_keeps t w S (call.set_flags_lem i f) e = setters.keep_set_flags t i f w S e
+accepted_keeps t w S (call.set_flags i f) e = setters.keep_set_flags t i f w S e
 accepted_keeps t w S (call.commit room) e = keep_commit t w S
 accepted_keeps t w S (call.read r) e = (w, S)
 accepted_keeps t w S (call.request q asked room) e = (w, S)
@@ -85,7 +85,7 @@ not_1 (false else n then k) h e = h.0 e
 
 reading_not_1 : (p : Plan) (r : Reading) → Not1 (call.conditions_of_reading p r)
 unfolding Not1
-reading_not_1 p call.needs_commit_lem = tt
+reading_not_1 p call.needs_commit = tt
 reading_not_1 p (call.is_alive i) = tt
 reading_not_1 p (call.local_transform i) = ((λ e. omega arith), tt)
 reading_not_1 p (call.local_clip i) = ((λ e. omega arith), tt)
@@ -93,13 +93,13 @@ reading_not_1 p (call.local_bounds i) = ((λ e. omega arith), tt)
 reading_not_1 p (call.hit_slop i) = ((λ e. omega arith), tt)
 reading_not_1 p (call.z_index i) = ((λ e. omega arith), tt)
 reading_not_1 p (call.flags i) = ((λ e. omega arith), tt)
-reading_not_1 p (call.parent_of_lem i) = ((λ e. omega arith), tt)
-reading_not_1 p (call.children_of_lem i room) = ((λ e. omega arith), ((λ e. omega arith), tt))
+reading_not_1 p (call.parent_of i) = ((λ e. omega arith), tt)
+reading_not_1 p (call.children_of i room) = ((λ e. omega arith), ((λ e. omega arith), tt))
 reading_not_1 p (call.next_depth_first i) = ((λ e. omega arith), tt)
 reading_not_1 p (call.prev_depth_first i) = ((λ e. omega arith), tt)
 reading_not_1 p (call.world_transform i) = ((λ e. omega arith), ((λ e. omega arith), tt))
-reading_not_1 p (call.world_bounds_lem i) = ((λ e. omega arith), ((λ e. omega arith), tt))
-reading_not_1 p (call.world_hit_bounds_lem i) = ((λ e. omega arith), ((λ e. omega arith), tt))
+reading_not_1 p (call.world_bounds i) = ((λ e. omega arith), ((λ e. omega arith), tt))
+reading_not_1 p (call.world_hit_bounds i) = ((λ e. omega arith), ((λ e. omega arith), tt))
 
 call_not_1 : (p : Plan) (c : Call) → Not1 (call.conditions p c)
 unfolding Not1
@@ -111,7 +111,7 @@ call_not_1 p (call.set_local_clip i c) = ((λ e. omega arith), ((λ e. omega ari
 call_not_1 p (call.set_local_bounds i r) = ((λ e. omega arith), ((λ e. omega arith), tt))
 call_not_1 p (call.set_hit_slop i s) = ((λ e. omega arith), ((λ e. omega arith), tt))
 call_not_1 p (call.set_z_index i z) = ((λ e. omega arith), tt)
-call_not_1 p (call.set_flags_lem i f) = ((λ e. omega arith), ((λ e. omega arith), tt))
+call_not_1 p (call.set_flags i f) = ((λ e. omega arith), ((λ e. omega arith), tt))
 call_not_1 p (call.commit room) = ((λ e. omega arith), tt)
 call_not_1 p (call.read r) = reading_not_1 p r
 call_not_1 p (call.request q asked room) = ((λ e. omega arith), ((λ e. omega arith), ((λ e. omega arith), tt)))

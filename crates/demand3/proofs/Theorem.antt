@@ -60,7 +60,7 @@ meets_fresh = record { known = known_fresh; entered = entered.entered_fresh }
 -- ---- refused alike
 
 reading_same : (t : Tree) (p : Plan) → Known t p → (r : Reading) → number_in (by.reading_verdict t r) ≡ call.refusal p (call.read r)
-reading_same t p K call.needs_commit_lem = refused.reading_refused t p K call.needs_commit_lem refl
+reading_same t p K call.needs_commit = refused.reading_refused t p K call.needs_commit refl
 reading_same t p K (call.is_alive i) = refused.reading_refused t p K (call.is_alive i) refl
 reading_same t p K (call.local_transform i) = refused.node_reading_refused t p K (call.local_transform i) i refl
 reading_same t p K (call.local_clip i) = refused.node_reading_refused t p K (call.local_clip i) i refl
@@ -68,13 +68,13 @@ reading_same t p K (call.local_bounds i) = refused.node_reading_refused t p K (c
 reading_same t p K (call.hit_slop i) = refused.node_reading_refused t p K (call.hit_slop i) i refl
 reading_same t p K (call.z_index i) = refused.node_reading_refused t p K (call.z_index i) i refl
 reading_same t p K (call.flags i) = refused.node_reading_refused t p K (call.flags i) i refl
-reading_same t p K (call.parent_of_lem i) = refused.node_reading_refused t p K (call.parent_of_lem i) i refl
-reading_same t p K (call.children_of_lem i room) = refused.children_reading_refused t p K i room
+reading_same t p K (call.parent_of i) = refused.node_reading_refused t p K (call.parent_of i) i refl
+reading_same t p K (call.children_of i room) = refused.children_reading_refused t p K i room
 reading_same t p K (call.next_depth_first i) = refused.node_reading_refused t p K (call.next_depth_first i) i refl
 reading_same t p K (call.prev_depth_first i) = refused.node_reading_refused t p K (call.prev_depth_first i) i refl
 reading_same t p K (call.world_transform i) = refused.world_reading_refused t p K (call.world_transform i) i refl
-reading_same t p K (call.world_bounds_lem i) = refused.world_reading_refused t p K (call.world_bounds_lem i) i refl
-reading_same t p K (call.world_hit_bounds_lem i) = refused.world_reading_refused t p K (call.world_hit_bounds_lem i) i refl
+reading_same t p K (call.world_bounds i) = refused.world_reading_refused t p K (call.world_bounds i) i refl
+reading_same t p K (call.world_hit_bounds i) = refused.world_reading_refused t p K (call.world_hit_bounds i) i refl
 
 pub refused_same : (t : Tree) (p : Plan) → Known t p → (c : Call) → number_in (verdict t c) ≡ call.refusal p c
 unfolding verdict
@@ -86,7 +86,7 @@ refused_same t p K (call.set_local_clip i c) = refused.clip_refused t p K i c
 refused_same t p K (call.set_local_bounds i r) = refused.bounds_refused t p K i r
 refused_same t p K (call.set_hit_slop i s) = refused.slop_refused t p K i s
 refused_same t p K (call.set_z_index i z) = refused.level_refused t p K i z
-refused_same t p K (call.set_flags_lem i f) = refused.flags_refused t p K i f
+refused_same t p K (call.set_flags i f) = refused.flags_refused t p K i f
 refused_same t p K (call.commit room) = refused.commit_refused t p K room
 refused_same t p K (call.read r) = reading_same t p K r
 refused_same t p K (call.request q asked room) = refused.request_refused t p K q asked room
@@ -167,7 +167,7 @@ accepted_meets t p M (call.set_hit_slop i s) e =
     }
 accepted_meets t p M (call.set_z_index i z) e =
     record { known = setter.level_known t p M.known i z e; entered = entered.entered_level t p.links M.entered i.0 z }
-accepted_meets t p M (call.set_flags_lem i f) e =
+accepted_meets t p M (call.set_flags i f) e =
     record { known = setter.flags_known t p M.known i f e; entered = entered.entered_flags t p.links M.entered i.0 f }
 accepted_meets t p M (call.commit room) e = record { known = commit_known t p M.known M.entered; entered = commit_entered t p M.known M.entered }
 accepted_meets t p M (call.read r) e = M
@@ -214,7 +214,7 @@ told_same t p K (call.set_local_clip i c) = refl
 told_same t p K (call.set_local_bounds i r) = refl
 told_same t p K (call.set_hit_slop i s) = refl
 told_same t p K (call.set_z_index i z) = refl
-told_same t p K (call.set_flags_lem i f) = refl
+told_same t p K (call.set_flags i f) = refl
 told_same t p K (call.commit room) = refl
 told_same t p K (call.read r) = refl
 told_same t p K (call.request q asked room) = refl

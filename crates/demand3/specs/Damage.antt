@@ -40,7 +40,7 @@ shown_after p s (call.set_local_clip i c) = s
 shown_after p s (call.set_local_bounds i r) = s
 shown_after p s (call.set_hit_slop i w) = s
 shown_after p s (call.set_z_index i z) = s
-shown_after p s (call.set_flags_lem i f) = s
+shown_after p s (call.set_flags i f) = s
 shown_after p s (call.read r) = s
 shown_after p s (call.request q asked room) = s
 
@@ -73,7 +73,7 @@ pub record Damage (t : Tree) (room : List Float) (rs : List Rect) : Type 0 where
   pub counted : (commit_call t (length room)).answer ≡ is.Damage (length rs)
   pub few : length rs ≤ 512
   -- they stand in front of the room, in order, four numbers each
-  pub in_front_lem : rects_of (commit_room t room) (length rs) ≡ rs
+  pub in_front : rects_of (commit_room t room) (length rs) ≡ rs
   -- behind them the room is as it was, and it is as long
   pub behind : drop (4 * length rs) (commit_room t room) ≡ drop (4 * length rs) room
   pub as_long : length (commit_room t room) ≡ length room

@@ -16,7 +16,7 @@ live_nodes t = count_below 256 (is_live t)
 
 -- what an insert is judged by before it is refused by 9: 3, 5 and 6 do not apply
 pub record Insertable (t : Tree) (parent : OptionNodeId) (v : LocalNode) : Type 0 where
-  pub parent_live_lem : parent_live t parent ≡ true
+  pub parent_live : parent_live t parent ≡ true
   pub finite : finite_local v ≡ true
   pub flags_known : known v.flags ≡ true
 

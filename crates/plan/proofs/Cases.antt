@@ -100,7 +100,7 @@ pub setters : (tapped (root ∷ settle ∷ call.set_local_bounds a (rect (num 20
     × (visits (after (root ∷ child a ∷ settle ∷ call.set_local_bounds a (rect fl.zero fl.zero fl.one fl.one) ∷ call.set_local_bounds b (rect fl.zero fl.zero fl.one fl.one) ∷ [])) ≡ 0 ∷ 1 ∷ [])  -- a mark alone covers nothing
     × (listing (root ∷ settle ∷ call.set_local_bounds a (whole 9) ∷ child a ∷ settle ∷ []) ≡ a ∷ b ∷ [])  -- new under mark alone
     × (needs (root ∷ call.set_z_index a (pos 1) ∷ []) ≡ true)  -- level keeps mark
-    × (needs (root ∷ call.set_flags_lem a (flags 0) ∷ []) ≡ true)  -- flags keep mark
+    × (needs (root ∷ call.set_flags a (flags 0) ∷ []) ≡ true)  -- flags keep mark
     × (visits (after (root ∷ child a ∷ settle ∷ call.set_local_transform a (shifted 1 0) ∷ call.set_z_index a (pos 1) ∷ [])) ≡ 0 ∷ 1 ∷ [])  -- level keeps change
 unfolding computed
 setters = (refl, refl, refl, refl, refl, refl, refl, refl, refl, refl, refl, refl, refl, refl, refl, refl, refl, refl, refl, refl)
@@ -118,10 +118,10 @@ pub numbers_of_refusal : (told [] (call.insert (node.Some a) (grown nan)) ≡ 3)
     × (told (root ∷ []) (call.set_hit_slop b (record { x0 = fl.zero; y0 = fl.zero; x1 = fl.zero; y1 = nan })) ≡ 2)  -- slop dead
     × (told (root ∷ []) (call.set_local_clip a (is.Rounded fl.zero fl.zero (num 10) (num 10) (num 1) (num 1) (num 1) (inf false))) ≡ 5)  -- clip radius
     × (told (root ∷ []) (call.set_local_clip b (is.Rounded fl.zero fl.zero (num 10) (num 10) (num 1) (num 1) (num 1) (inf false))) ≡ 2)  -- clip dead
-    × (told (root ∷ []) (call.set_flags_lem a (flags 8)) ≡ 6)  -- flags
-    × (told (root ∷ []) (call.set_flags_lem b (flags 8)) ≡ 2)  -- flags dead
+    × (told (root ∷ []) (call.set_flags a (flags 8)) ≡ 6)  -- flags
+    × (told (root ∷ []) (call.set_flags b (flags 8)) ≡ 2)  -- flags dead
     × (told (root ∷ []) (call.set_z_index (id 0 2) (pos 0)) ≡ 2)  -- level dead
-    × (told (root ∷ []) (call.read (call.children_of_lem b (words 0))) ≡ 2)  -- children dead
+    × (told (root ∷ []) (call.read (call.children_of b (words 0))) ≡ 2)  -- children dead
     × (told (root ∷ []) (call.read (call.local_clip a)) ≡ 0)  -- local uncommitted
     × (told (root ∷ child a ∷ call.remove b ∷ root ∷ []) (call.reparent (id 1 2) (node.Some b)) ≡ 3)  -- parent itself dead former child
     × (told [] (call.remove (id 0 0)) ≡ 2)  -- remove dead
@@ -220,7 +220,7 @@ redacted = (refl, refl)
 
 -- outcomes: an id is told where a call is accepted; a refusal is judged on the plan
 pub handed_out : (outcomes step outcome empty (root ∷ child b ∷ child a ∷ call.commit (floats 0) ∷ []) ≡ record { refused = 0; told = call.id a } ∷ record { refused = 3; told = call.nothing } ∷ record { refused = 0; told = call.id b } ∷ record { refused = 8; told = call.nothing } ∷ [])  -- outcomes
-    × (answer (after (root ∷ child a ∷ settle ∷ call.set_flags_lem b (flags 1) ∷ [])) (flags 3) (words 512) (call.hit_test_point (point 5 5)) ≡ demand.tapped (hit a (a ∷ [])))  -- answer
+    × (answer (after (root ∷ child a ∷ settle ∷ call.set_flags b (flags 1) ∷ [])) (flags 3) (words 512) (call.hit_test_point (point 5 5)) ≡ demand.tapped (hit a (a ∷ [])))  -- answer
     × (answer (after (root ∷ [])) (flags 3) (words 512) (call.hit_test_point (point 5 5)) ≡ demand.refused 7)  -- answer
     × (answer (after (root ∷ root ∷ settle ∷ [])) (flags 3) (words 512) (call.intersect_rect (whole 5)) ≡ demand.listed (a ∷ b ∷ []))  -- answer
 unfolding computed
@@ -245,8 +245,8 @@ pub requests : (needs (root ∷ settle ∷ call.set_local_bounds a (rect fl.zero
     × (told (root ∷ settle ∷ call.reparent a node.None ∷ []) (call.request (call.intersect_rect (whole 5)) (flags 3) (words 512)) ≡ 7)  -- request 7 after move
     × (told (root ∷ []) (call.read (call.world_transform a)) ≡ 7)  -- world transform
     × (told (root ∷ []) (call.read (call.world_transform b)) ≡ 2)  -- world transform
-    × (told (root ∷ []) (call.read (call.world_hit_bounds_lem a)) ≡ 7)  -- world hit bounds
-    × (told (root ∷ []) (call.read (call.world_hit_bounds_lem b)) ≡ 2)  -- world hit bounds
+    × (told (root ∷ []) (call.read (call.world_hit_bounds a)) ≡ 7)  -- world hit bounds
+    × (told (root ∷ []) (call.read (call.world_hit_bounds b)) ≡ 2)  -- world hit bounds
     × (told (root ∷ []) (call.read (call.local_transform b)) ≡ 2)  -- local transform
     × (told (root ∷ []) (call.read (call.local_transform a)) ≡ 0)  -- local transform
     × (told (root ∷ []) (call.read (call.local_clip b)) ≡ 2)  -- local clip
@@ -259,13 +259,13 @@ pub requests : (needs (root ∷ settle ∷ call.set_local_bounds a (rect fl.zero
     × (told (root ∷ []) (call.read (call.z_index a)) ≡ 0)  -- z index
     × (told (root ∷ []) (call.read (call.flags b)) ≡ 2)  -- flags
     × (told (root ∷ []) (call.read (call.flags a)) ≡ 0)  -- flags
-    × (told (root ∷ []) (call.read (call.parent_of_lem b)) ≡ 2)  -- parent of
-    × (told (root ∷ []) (call.read (call.parent_of_lem a)) ≡ 0)  -- parent of
+    × (told (root ∷ []) (call.read (call.parent_of b)) ≡ 2)  -- parent of
+    × (told (root ∷ []) (call.read (call.parent_of a)) ≡ 0)  -- parent of
     × (told (root ∷ []) (call.read (call.next_depth_first b)) ≡ 2)  -- next depth first
     × (told (root ∷ []) (call.read (call.next_depth_first a)) ≡ 0)  -- next depth first
     × (told (root ∷ []) (call.read (call.prev_depth_first b)) ≡ 2)  -- prev depth first
     × (told (root ∷ []) (call.read (call.prev_depth_first a)) ≡ 0)  -- prev depth first
-    × (told (root ∷ []) (call.read (call.children_of_lem a (words 512))) ≡ 0)  -- children
+    × (told (root ∷ []) (call.read (call.children_of a (words 512))) ≡ 0)  -- children
 unfolding computed
 requests = (refl, refl, refl, refl, refl, refl, refl, refl, refl, refl, refl, refl, refl, refl, refl, refl, refl, refl, refl, refl, refl, refl, refl, refl, refl, refl, refl, refl, refl, refl, refl, refl, refl)
 
@@ -275,6 +275,6 @@ pub records : ((after (call.insert node.None (rec (rect fl.one fl.one (num 8) (n
     × ((after (call.insert node.None (rec (rect fl.one fl.one (num 8) (num 9)) (record { x0 = num 1; y0 = num 2; x1 = num 3; y1 = num 4 }) (shifted 7 8) (is.Square (num 20) (num 20) (num 30) (num 30)) (pos 6) 5) ∷ call.set_local_transform a (turn 1 2) ∷ [])).local 0 ≡ rec (rect fl.one fl.one (num 8) (num 9)) (record { x0 = num 1; y0 = num 2; x1 = num 3; y1 = num 4 }) (turn 1 2) (is.Square (num 20) (num 20) (num 30) (num 30)) (pos 6) 5)  -- transform only
     × ((after (call.insert node.None (rec (rect fl.one fl.one (num 8) (num 9)) (record { x0 = num 1; y0 = num 2; x1 = num 3; y1 = num 4 }) (shifted 7 8) (is.Square (num 20) (num 20) (num 30) (num 30)) (pos 6) 5) ∷ call.set_local_clip a (is.Square fl.zero fl.zero (num 10) (num 10)) ∷ [])).local 0 ≡ rec (rect fl.one fl.one (num 8) (num 9)) (record { x0 = num 1; y0 = num 2; x1 = num 3; y1 = num 4 }) (shifted 7 8) (is.Square fl.zero fl.zero (num 10) (num 10)) (pos 6) 5)  -- clip only
     × ((after (call.insert node.None (rec (rect fl.one fl.one (num 8) (num 9)) (record { x0 = num 1; y0 = num 2; x1 = num 3; y1 = num 4 }) (shifted 7 8) (is.Square (num 20) (num 20) (num 30) (num 30)) (pos 6) 5) ∷ call.set_z_index a (negsuc 3) ∷ [])).local 0 ≡ rec (rect fl.one fl.one (num 8) (num 9)) (record { x0 = num 1; y0 = num 2; x1 = num 3; y1 = num 4 }) (shifted 7 8) (is.Square (num 20) (num 20) (num 30) (num 30)) (negsuc 3) 5)  -- level only
-    × ((after (call.insert node.None (rec (rect fl.one fl.one (num 8) (num 9)) (record { x0 = num 1; y0 = num 2; x1 = num 3; y1 = num 4 }) (shifted 7 8) (is.Square (num 20) (num 20) (num 30) (num 30)) (pos 6) 5) ∷ call.set_flags_lem a (flags 2) ∷ [])).local 0 ≡ rec (rect fl.one fl.one (num 8) (num 9)) (record { x0 = num 1; y0 = num 2; x1 = num 3; y1 = num 4 }) (shifted 7 8) (is.Square (num 20) (num 20) (num 30) (num 30)) (pos 6) 2)  -- flags only
+    × ((after (call.insert node.None (rec (rect fl.one fl.one (num 8) (num 9)) (record { x0 = num 1; y0 = num 2; x1 = num 3; y1 = num 4 }) (shifted 7 8) (is.Square (num 20) (num 20) (num 30) (num 30)) (pos 6) 5) ∷ call.set_flags a (flags 2) ∷ [])).local 0 ≡ rec (rect fl.one fl.one (num 8) (num 9)) (record { x0 = num 1; y0 = num 2; x1 = num 3; y1 = num 4 }) (shifted 7 8) (is.Square (num 20) (num 20) (num 30) (num 30)) (pos 6) 2)  -- flags only
 unfolding computed
 records = (refl, refl, refl, refl, refl, refl)

@@ -31,9 +31,9 @@ module _ (p : Plan) where
   unfolding refusal accepted
   commit_length a b e = heard (call.commit a) (call.commit b) (rw e) refl refl
 
-  pub children_length : (i : NodeId) (a b : List ℕ) → length a ≡ length b → HeardAlike p (call.read (call.children_of_lem i a)) (call.read (call.children_of_lem i b))
+  pub children_length : (i : NodeId) (a b : List ℕ) → length a ≡ length b → HeardAlike p (call.read (call.children_of i a)) (call.read (call.children_of i b))
   unfolding refusal accepted
-  children_length i a b e = heard (call.read (call.children_of_lem i a)) (call.read (call.children_of_lem i b)) (rw e) refl refl
+  children_length i a b e = heard (call.read (call.children_of i a)) (call.read (call.children_of i b)) (rw e) refl refl
 
   pub request_length : (q : Request) (asked : NodeFlags) (a b : List ℕ) → length a ≡ length b → HeardAlike p (call.request q asked a) (call.request q asked b)
   unfolding refusal accepted

@@ -133,7 +133,7 @@ pub needed : (needs (root ∷ []) ≡ true)
     × (needs (root ∷ call.remove a ∷ []) ≡ false)  -- a mark goes with its node
     × (needs (root ∷ settle ∷ []) ≡ false)
     × (needs (root ∷ settle ∷ call.remove a ∷ []) ≡ true)  -- a removed entry
-    × (needs (root ∷ settle ∷ call.set_z_index a (negsuc 4) ∷ call.set_flags_lem a (flags 0) ∷ []) ≡ false)
+    × (needs (root ∷ settle ∷ call.set_z_index a (negsuc 4) ∷ call.set_flags a (flags 0) ∷ []) ≡ false)
     × (needs (root ∷ settle ∷ call.set_local_transform a (shifted 1 0) ∷ call.set_local_transform a identity ∷ []) ≡ true)  -- set and set back
     × (needs (root ∷ settle ∷ call.set_local_bounds a (rect (neg zero) zero (num 10) (num 10)) ∷ []) ≡ false)  -- −0 over +0
     × (needs (root ∷ call.commit (floats 2047) ∷ []) ≡ true)  -- a refused commit
@@ -146,10 +146,10 @@ needed = (refl, refl, refl, refl, refl, refl, refl, refl, refl, refl, refl)
 -- the lowest number that applies
 pub refusals : (told [] (call.insert (node.Some a) (grown nan)) ≡ 3)
     × (told [] (call.commit (floats 2047)) ≡ 8)
-    × (told (root ∷ []) (call.read (call.world_bounds_lem b)) ≡ 2)
-    × (told (root ∷ []) (call.read (call.world_bounds_lem a)) ≡ 7)
+    × (told (root ∷ []) (call.read (call.world_bounds b)) ≡ 2)
+    × (told (root ∷ []) (call.read (call.world_bounds a)) ≡ 7)
     × (told (root ∷ []) (call.read (call.is_alive b)) ≡ 0)
-    × (told (root ∷ []) (call.read (call.children_of_lem a (words 511))) ≡ 8)
+    × (told (root ∷ []) (call.read (call.children_of a (words 511))) ≡ 8)
     × (told (root ∷ []) (call.request (call.hit_test_point (point 0 0)) (flags 8) (words 0)) ≡ 6)
     × (told (root ∷ []) (call.request (call.hit_test_point (point 0 0)) (flags 3) (words 0)) ≡ 7)
     × (told (root ∷ settle ∷ []) (call.request (call.hit_test_point (point 0 0)) (flags 3) (words 511)) ≡ 8)
@@ -210,7 +210,7 @@ taps = (refl, refl, refl, refl, refl, refl, refl, refl, refl, refl, refl, refl, 
 -- a withheld parent: place 1 without flags, level 9, above place 2, with a clip 0 to 4
 unfoldable pub hidden : List Call
 hidden =
-    call.insert node.None (local 10 (is.Square zero zero (num 4) (num 4)) (pos 9)) ∷ child a ∷ settle ∷ call.set_flags_lem a (flags 0) ∷ []
+    call.insert node.None (local 10 (is.Square zero zero (num 4) (num 4)) (pos 9)) ∷ child a ∷ settle ∷ call.set_flags a (flags 0) ∷ []
 
 pub redaction : (tap (redact (flags 3) (after hidden)) (flags 3) (point 3 3) ≡ hit b (a ∷ b ∷ []))
     × (tap (redact (flags 3) (after hidden)) (flags 3) (point 5 5) ≡ nothing)

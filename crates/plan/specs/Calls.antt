@@ -16,7 +16,7 @@ use Rattle.tree_types.specs.declared.NodeFlags.{NodeFlags}
 use Rattle.tree_types.specs.declared.LocalNode.{LocalNode}
 use Rattle.tree_types.specs.declared.OptionNodeId.{OptionNodeId}
 use Rattle.tree_types.specs.Local.{known, finite_local, with_transform, with_clip, with_bounds, with_slop, with_level, with_flags}
-use Rattle.plan.specs.Plan.{Plan, live, parent_live, at_or_below, full, needs_commit, new_id, inserted, removed, moved, set_unless, with_local, mark_alone, mark_transform, mark_clip}
+use Rattle.plan.specs.Plan.{Plan, live, parent_live, at_or_below, full, needs_commit as commit_needed, new_id, inserted, removed, moved, set_unless, with_local, mark_alone, mark_transform, mark_clip}
 use Rattle.plan.specs.Visits.{committed}
 
 pub data Request : Type 0 where
@@ -25,7 +25,7 @@ pub data Request : Type 0 where
   containing_point : Point → Request
 
 pub data Reading : Type 0 where
-  needs_commit_lem : Reading
+  needs_commit : Reading
   is_alive : NodeId → Reading
   local_transform : NodeId → Reading
   local_clip : NodeId → Reading
@@ -33,13 +33,13 @@ pub data Reading : Type 0 where
   hit_slop : NodeId → Reading
   z_index : NodeId → Reading
   flags : NodeId → Reading
-  parent_of_lem : NodeId → Reading
-  children_of_lem : NodeId → List ℕ → Reading  -- with its room
+  parent_of : NodeId → Reading
+  children_of : NodeId → List ℕ → Reading  -- with its room
   next_depth_first : NodeId → Reading
   prev_depth_first : NodeId → Reading
   world_transform : NodeId → Reading
-  world_bounds_lem : NodeId → Reading
-  world_hit_bounds_lem : NodeId → Reading
+  world_bounds : NodeId → Reading
+  world_hit_bounds : NodeId → Reading
 
 pub data Call : Type 0 where
   insert : OptionNodeId → LocalNode → Call
@@ -50,7 +50,7 @@ pub data Call : Type 0 where
   set_local_bounds : NodeId → Rect → Call
   set_hit_slop : NodeId → Insets → Call
   set_z_index : NodeId → ℤ → Call
-  set_flags_lem : NodeId → NodeFlags → Call
+  set_flags : NodeId → NodeFlags → Call
   commit : List Float → Call  -- with its room
   read : Reading → Call
   request : Request → NodeFlags → List ℕ → Call  -- with the flags it asks for and its room
@@ -65,16 +65,16 @@ abbrev pub room_for_ids : ℕ → Bool
 room_for_ids len = not (ltb len 512)
 
 abbrev pub conditions_of_request : Plan → NodeFlags → ℕ → Conditions
-conditions_of_request p asked len = known asked else 6 then not (needs_commit p) else 7 then room_for_ids len else 8 then accept
+conditions_of_request p asked len = known asked else 6 then not (commit_needed p) else 7 then room_for_ids len else 8 then accept
 
 abbrev pub of_node : Plan → NodeId → Conditions
 of_node p i = live p i else 2 then accept
 
 abbrev pub of_world : Plan → NodeId → Conditions
-of_world p i = live p i else 2 then not (needs_commit p) else 7 then accept
+of_world p i = live p i else 2 then not (commit_needed p) else 7 then accept
 
 abbrev pub conditions_of_reading : Plan → Reading → Conditions
-conditions_of_reading p needs_commit_lem = accept
+conditions_of_reading p needs_commit = accept
 conditions_of_reading p (is_alive i) = accept
 conditions_of_reading p (local_transform i) = of_node p i
 conditions_of_reading p (local_clip i) = of_node p i
@@ -82,13 +82,13 @@ conditions_of_reading p (local_bounds i) = of_node p i
 conditions_of_reading p (hit_slop i) = of_node p i
 conditions_of_reading p (z_index i) = of_node p i
 conditions_of_reading p (flags i) = of_node p i
-conditions_of_reading p (parent_of_lem i) = of_node p i
-conditions_of_reading p (children_of_lem i room) = live p i else 2 then room_for_ids (length room) else 8 then accept
+conditions_of_reading p (parent_of i) = of_node p i
+conditions_of_reading p (children_of i room) = live p i else 2 then room_for_ids (length room) else 8 then accept
 conditions_of_reading p (next_depth_first i) = of_node p i
 conditions_of_reading p (prev_depth_first i) = of_node p i
 conditions_of_reading p (world_transform i) = of_world p i
-conditions_of_reading p (world_bounds_lem i) = of_world p i
-conditions_of_reading p (world_hit_bounds_lem i) = of_world p i
+conditions_of_reading p (world_bounds i) = of_world p i
+conditions_of_reading p (world_hit_bounds i) = of_world p i
 
 abbrev pub conditions : Plan → Call → Conditions
 conditions p (insert parent v) =
@@ -101,7 +101,7 @@ conditions p (set_local_clip i c) = live p i else 2 then finite_clip c else 5 th
 conditions p (set_local_bounds i r) = live p i else 2 then finite_rect r else 5 then accept
 conditions p (set_hit_slop i s) = live p i else 2 then finite_insets s else 5 then accept
 conditions p (set_z_index i z) = of_node p i
-conditions p (set_flags_lem i f) = live p i else 2 then known f else 6 then accept
+conditions p (set_flags i f) = live p i else 2 then known f else 6 then accept
 conditions p (commit room) = room_for_rects (length room) else 8 then accept
 conditions p (read r) = conditions_of_reading p r
 conditions p (request q asked room) = conditions_of_request p asked (length room)
@@ -128,7 +128,7 @@ accepted p (set_hit_slop i s) =
     let v = p.local i.0 in
     set_unless (insets_eq v.hit_slop s) p i.0 (with_slop s v) mark_alone
 accepted p (set_z_index i z) = with_local p i.0 (with_level z (p.local i.0)) (p.mark i.0)
-accepted p (set_flags_lem i f) = with_local p i.0 (with_flags f (p.local i.0)) (p.mark i.0)
+accepted p (set_flags i f) = with_local p i.0 (with_flags f (p.local i.0)) (p.mark i.0)
 accepted p (commit room) = committed p
 accepted p (read r) = p
 accepted p (request q asked room) = p
@@ -156,7 +156,7 @@ told p (set_local_clip i c) = nothing
 told p (set_local_bounds i r) = nothing
 told p (set_hit_slop i s) = nothing
 told p (set_z_index i z) = nothing
-told p (set_flags_lem i f) = nothing
+told p (set_flags i f) = nothing
 told p (commit room) = nothing
 told p (read r) = nothing
 told p (request q asked room) = nothing

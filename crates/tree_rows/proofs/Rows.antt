@@ -89,7 +89,7 @@ unfolding computed
 taps = (refl, refl, refl)
 
 -- refusals, and a box that has moved twice
-pub lists : (refusals (child a ∷ root ∷ child a ∷ call.reparent a (node.Some b) ∷ call.remove c ∷ call.commit (floats 2047) ∷ call.read (call.world_bounds_lem a) ∷ settle ∷ call.read (call.world_bounds_lem a) ∷ [])
+pub lists : (refusals (child a ∷ root ∷ child a ∷ call.reparent a (node.Some b) ∷ call.remove c ∷ call.commit (floats 2047) ∷ call.read (call.world_bounds a) ∷ settle ∷ call.read (call.world_bounds a) ∷ [])
     ≡ 3 ∷ 0 ∷ 0 ∷ 4 ∷ 2 ∷ 8 ∷ 7 ∷ 0 ∷ 0 ∷ [])
     × (tap_at (root ∷ settle ∷ call.set_local_transform a (shifted 20 0) ∷ settle ∷ call.set_local_transform a (shifted 40 0) ∷ settle ∷ []) 45 5 ≡ tapped (afresh.hit a (a ∷ [])))
 unfolding computed

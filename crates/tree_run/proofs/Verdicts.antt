@@ -43,7 +43,7 @@ use Rattle.plan.specs.Demand.{Answer, refused, listed, tapped}
 -- ---- the refusal of each call
 
 abbrev pub reading_verdict : Tree → Reading → Verdict
-reading_verdict t call.needs_commit_lem = set.held t
+reading_verdict t call.needs_commit = set.held t
 reading_verdict t (call.is_alive i) = set.held t
 reading_verdict t (call.local_transform i) = set.of_node t i
 reading_verdict t (call.local_clip i) = set.of_node t i
@@ -51,13 +51,13 @@ reading_verdict t (call.local_bounds i) = set.of_node t i
 reading_verdict t (call.hit_slop i) = set.of_node t i
 reading_verdict t (call.z_index i) = set.of_node t i
 reading_verdict t (call.flags i) = set.of_node t i
-reading_verdict t (call.parent_of_lem i) = set.of_node t i
-reading_verdict t (call.children_of_lem i room) = children_verdict t i (length room)
+reading_verdict t (call.parent_of i) = set.of_node t i
+reading_verdict t (call.children_of i room) = children_verdict t i (length room)
 reading_verdict t (call.next_depth_first i) = set.of_node t i
 reading_verdict t (call.prev_depth_first i) = set.of_node t i
 reading_verdict t (call.world_transform i) = world_verdict t i
-reading_verdict t (call.world_bounds_lem i) = world_verdict t i
-reading_verdict t (call.world_hit_bounds_lem i) = world_verdict t i
+reading_verdict t (call.world_bounds i) = world_verdict t i
+reading_verdict t (call.world_hit_bounds i) = world_verdict t i
 
 unfoldable pub verdict : Tree → Call → Verdict
 verdict t (call.insert parent v) = structure.insert_verdict t parent v
@@ -68,7 +68,7 @@ verdict t (call.set_local_clip i c) = set.clip_verdict t i c
 verdict t (call.set_local_bounds i r) = set.bounds_verdict t i r
 verdict t (call.set_hit_slop i s) = set.slop_verdict t i s
 verdict t (call.set_z_index i z) = set.of_node t i
-verdict t (call.set_flags_lem i f) = set.flags_verdict t i f
+verdict t (call.set_flags i f) = set.flags_verdict t i f
 verdict t (call.commit room) = steps.commit_verdict t (length room)
 verdict t (call.read r) = reading_verdict t r
 verdict t (call.request q asked room) = request.request_verdict t asked (length room)
@@ -84,7 +84,7 @@ accepted t (call.set_local_clip i c) = set.set_clip t i.0 c
 accepted t (call.set_local_bounds i r) = set.set_bounds t i.0 r
 accepted t (call.set_hit_slop i s) = set.set_slop t i.0 s
 accepted t (call.set_z_index i z) = set.set_level t i.0 z
-accepted t (call.set_flags_lem i f) = set.set_flags t i.0 f
+accepted t (call.set_flags i f) = set.set_flags t i.0 f
 accepted t (call.commit room) = (steps.commit_tree t).tree
 accepted t (call.read r) = t
 accepted t (call.request q asked room) = t
@@ -98,7 +98,7 @@ told t (call.set_local_clip i c) = call.nothing
 told t (call.set_local_bounds i r) = call.nothing
 told t (call.set_hit_slop i s) = call.nothing
 told t (call.set_z_index i z) = call.nothing
-told t (call.set_flags_lem i f) = call.nothing
+told t (call.set_flags i f) = call.nothing
 told t (call.commit room) = call.nothing
 told t (call.read r) = call.nothing
 told t (call.request q asked room) = call.nothing
@@ -136,7 +136,7 @@ step_is t (call.set_local_clip i c) = refl
 step_is t (call.set_local_bounds i r) = refl
 step_is t (call.set_hit_slop i s) = refl
 step_is t (call.set_z_index i z) = refl
-step_is t (call.set_flags_lem i f) = refl
+step_is t (call.set_flags i f) = refl
 step_is t (call.commit room) = commit_leaves (steps.commit_verdict t (length room)) t
 step_is t (call.read r) = if_same (reading_verdict t r) t
 step_is t (call.request q asked room) = if_same (request.request_verdict t asked (length room)) t
@@ -191,7 +191,7 @@ ids_number_lem (is.Refused q) l = refl
 
 reading_number_lem : (t : Tree) (r : Reading) → run.reading_number t r ≡ number_in (reading_verdict t r)
 unfolding run.reading_number
-reading_number_lem t call.needs_commit_lem = bool_number_lem (set.held t) (needs_commit t)
+reading_number_lem t call.needs_commit = bool_number_lem (set.held t) (needs_commit t)
 reading_number_lem t (call.is_alive i) = bool_number_lem (set.held t) (live t i)
 reading_number_lem t (call.local_transform i) = transform_number_lem (set.of_node t i) (local_at t i.0).local_transform
 reading_number_lem t (call.local_clip i) = clip_number_lem (set.of_node t i) (local_at t i.0).local_clip
@@ -199,13 +199,13 @@ reading_number_lem t (call.local_bounds i) = rect_number_lem (set.of_node t i) (
 reading_number_lem t (call.hit_slop i) = insets_number_lem (set.of_node t i) (local_at t i.0).hit_slop
 reading_number_lem t (call.z_index i) = level_number_lem (set.of_node t i) (local_at t i.0).z_index
 reading_number_lem t (call.flags i) = flags_number_lem (set.of_node t i) (local_at t i.0).flags
-reading_number_lem t (call.parent_of_lem i) = node_number_lem (set.of_node t i) (parent_of t i.0)
-reading_number_lem t (call.children_of_lem i room) = ids_number_lem (children_verdict t i (length room)) (children_of t i.0)
+reading_number_lem t (call.parent_of i) = node_number_lem (set.of_node t i) (parent_of t i.0)
+reading_number_lem t (call.children_of i room) = ids_number_lem (children_verdict t i (length room)) (children_of t i.0)
 reading_number_lem t (call.next_depth_first i) = node_number_lem (set.of_node t i) (next_of t i.0)
 reading_number_lem t (call.prev_depth_first i) = node_number_lem (set.of_node t i) (prev_of t i.0)
 reading_number_lem t (call.world_transform i) = transform_number_lem (world_verdict t i) (stored_place t i.0).transform
-reading_number_lem t (call.world_bounds_lem i) = rect_number_lem (world_verdict t i) (stored_bounds t i.0)
-reading_number_lem t (call.world_hit_bounds_lem i) = rect_number_lem (world_verdict t i) (stored_hit_bounds t i.0)
+reading_number_lem t (call.world_bounds i) = rect_number_lem (world_verdict t i) (stored_bounds t i.0)
+reading_number_lem t (call.world_hit_bounds i) = rect_number_lem (world_verdict t i) (stored_hit_bounds t i.0)
 
 -- ---- ids in lent room are read back
 
@@ -313,7 +313,7 @@ outcome_is t (call.set_local_clip i c) = number_tells (set.clip_verdict t i c)
 outcome_is t (call.set_local_bounds i r) = number_tells (set.bounds_verdict t i r)
 outcome_is t (call.set_hit_slop i s) = number_tells (set.slop_verdict t i s)
 outcome_is t (call.set_z_index i z) = number_tells (set.of_node t i)
-outcome_is t (call.set_flags_lem i f) = number_tells (set.flags_verdict t i f)
+outcome_is t (call.set_flags i f) = number_tells (set.flags_verdict t i f)
 outcome_is t (call.commit room) =
     let v = steps.commit_verdict t (length room) in
     ap number_told (commit_number v t (steps.commit_tree t)) ∙ number_tells v

@@ -1,4 +1,4 @@
--- Any list of calls on one tree, read off the contracts: a call has the name of its function (`hit_test_point`: `hit_test_point`), and its clause
+-- Any list of calls on one tree, read off the contracts: a call has the name of its function, and its clause
 -- names what that function's `ensures` cites, of lent room what it cites of the room after the call. Demand 3 is proved of these (demand3, Theorem).
 use Rattle.std.specs.Prelude.{ℕ, List, length}
 use Rattle.tree_types.specs.declared.NodeFlags.{NodeFlags}
@@ -27,7 +27,7 @@ step t (call.set_local_clip i c) = (clip_call t i c).tree
 step t (call.set_local_bounds i r) = (bounds_call t i r).tree
 step t (call.set_hit_slop i s) = (slop_call t i s).tree
 step t (call.set_z_index i z) = (level_call t i z).tree
-step t (call.set_flags_lem i f) = (flags_call t i f).tree
+step t (call.set_flags i f) = (flags_call t i f).tree
 step t (call.commit room) = (commit_call t (length room)).tree
 step t (call.read r) = t
 step t (call.request q asked room) = t
@@ -42,7 +42,7 @@ answer t asked room (call.containing_point pt) = listing_told (containing_call t
 -- ---- the number of a reading's answer
 
 unfoldable pub reading_number : Tree → Reading → ℕ
-reading_number t call.needs_commit_lem = reads.bool_number (reads.needs_commit_call t)
+reading_number t call.needs_commit = reads.bool_number (reads.needs_commit_call t)
 reading_number t (call.is_alive i) = reads.bool_number (reads.is_alive_call t i)
 reading_number t (call.local_transform i) = reads.transform_number (reads.local_transform_call t i)
 reading_number t (call.local_clip i) = reads.clip_number (reads.local_clip_call t i)
@@ -50,13 +50,13 @@ reading_number t (call.local_bounds i) = reads.rect_number (reads.local_bounds_c
 reading_number t (call.hit_slop i) = reads.insets_number (reads.hit_slop_call t i)
 reading_number t (call.z_index i) = reads.level_number (reads.z_index_call t i)
 reading_number t (call.flags i) = reads.flags_number (reads.flags_call t i)
-reading_number t (call.parent_of_lem i) = reads.node_number (reads.parent_call t i)
-reading_number t (call.children_of_lem i room) = reads.ids_number (reads.children_call t i (length room))
+reading_number t (call.parent_of i) = reads.node_number (reads.parent_call t i)
+reading_number t (call.children_of i room) = reads.ids_number (reads.children_call t i (length room))
 reading_number t (call.next_depth_first i) = reads.node_number (reads.next_call t i)
 reading_number t (call.prev_depth_first i) = reads.node_number (reads.prev_call t i)
 reading_number t (call.world_transform i) = reads.transform_number (reads.world_transform_call t i)
-reading_number t (call.world_bounds_lem i) = reads.rect_number (reads.world_bounds_call t i)
-reading_number t (call.world_hit_bounds_lem i) = reads.rect_number (reads.world_hit_bounds_call t i)
+reading_number t (call.world_bounds i) = reads.rect_number (reads.world_bounds_call t i)
+reading_number t (call.world_hit_bounds i) = reads.rect_number (reads.world_hit_bounds_call t i)
 
 -- ---- a call's outcome: the number of its answer, and what it tells
 
@@ -69,7 +69,7 @@ outcome t (call.set_local_clip i c) = number_told (number_in (clip_call t i c).a
 outcome t (call.set_local_bounds i r) = number_told (number_in (bounds_call t i r).answer)
 outcome t (call.set_hit_slop i s) = number_told (number_in (slop_call t i s).answer)
 outcome t (call.set_z_index i z) = number_told (number_in (level_call t i z).answer)
-outcome t (call.set_flags_lem i f) = number_told (number_in (flags_call t i f).answer)
+outcome t (call.set_flags i f) = number_told (number_in (flags_call t i f).answer)
 outcome t (call.commit room) = number_told (committed_number (commit_call t (length room)).answer)
 outcome t (call.read r) = number_told (reading_number t r)
 outcome t (call.request q asked room) = number_told (answer_number (answer t asked room q))
