@@ -11,7 +11,7 @@ use Rattle.index_commit.specs.Agree.{Agree}
 use Rattle.tree_state.specs.declared.Tree.{Tree}
 use Rattle.tree_state.specs.Tree.{generation_at, local_at, marked_at, transform_changed_at, clip_changed_at, committed_at, key_at, stored_place, entry_mark, is_removed}
 use Rattle.tree_state.specs.Sound.{SoundTree}
-use Rattle.tree_laws.specs.Whole.{Whole}
+use Rattle.tree_state.specs.Whole.{Whole}
 use Rattle.tree_laws.proofs.Ground.{Linked}
 use Rattle.plan.specs.Lists.{any}
 use Rattle.plan.specs.Plan.{Plan, Mark, Entry}

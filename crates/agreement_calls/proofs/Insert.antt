@@ -1,4 +1,6 @@
 -- An accepted insert leaves a tree and a plan that agree.
+use Rattle.index_types.specs.declared.NodeId.{NodeId}
+use Rattle.std.specs.Prelude.{Ok, None, Some, Option}
 use mathlib.Core.Path.{◌≡◌, refl, sym, ap, subst, ◌∙◌}
 use mathlib.Core.Bool.{true, false, ◌&&◌, ◌||◌, cond}
 use mathlib.Core.List.{reverse}
@@ -14,19 +16,17 @@ use Rattle.counting.specs.Times.{times}
 use Rattle.counting.proofs.Counting.{hit}
 use Rattle.counting.proofs.Kit.{contra}
 use Rattle.tree_types.specs.declared.LocalNode.{LocalNode}
-use Rattle.tree_types.specs.declared.OptionNodeId.{OptionNodeId}
-use Rattle.tree_types.specs.declared.OptionNodeId.TheVariants as node
 use Rattle.tree_types.specs.Local.{stored, empty_rect}
 use Rattle.node_tables.specs.Tables.{kind_of}
 use Rattle.node_tables.proofs.Laws.{rect_same, rect_other, insets_same, insets_other, affine_same, affine_other, clip_same, clip_other}
 use Rattle.link_forest.specs.Forest.{leaf, has}
 use Rattle.tree_state.specs.declared.Tree.{Tree}
-use Rattle.tree_state.specs.declared.Verdict.TheVariants as is
 use Rattle.tree_state.specs.Tree.{local_at, generation_at}
 use Rattle.tree_steps.specs.Structure.{parent_live, insert_verdict, slot_of, generation_of, insert_tree}
 use Rattle.tree_invariant.proofs.calls.Accepted.{insert_accepted}
 use Rattle.tree_invariant.proofs.calls.Insert.{keep_insert}
-use Rattle.tree_invariant.proofs.calls.Links.{new_low, new_lacks, insert_links}
+use Rattle.tree_invariant.proofs.calls.Links.{new_lacks, insert_links}
+use Rattle.tree_laws.proofs.Taken.{new_low}
 use Rattle.plan.specs.Lists.{put}
 use Rattle.plan.specs.Plan.{Plan, Mark, without, changed_in_both, with_entry, onto, used_after, free_after, generation_from, inserted}
 use Rattle.plan.specs.Visits.{counts_as_changed}
@@ -39,12 +39,12 @@ use Rattle.agreement_calls.proofs.Frame.{put_same, put_other, any_at, Kept, Unmo
 use Rattle.agreement_calls.proofs.Setters.{live_node}
 use Rattle.agreement_calls.proofs.Onto.{Parent, leaf_onto, leaf_above}
 
-pub parent_in_lem : (t : Tree) (p : Plan) → Known t p → (o : OptionNodeId) → parent_live t o ≡ true → Parent o p.links
-parent_in_lem t p K node.None e = tt
-parent_in_lem t p K (node.Some h) e = live_node t p K h e
+pub parent_in_lem : (t : Tree) (p : Plan) → Known t p → (o : Option NodeId) → parent_live t o ≡ true → Parent o p.links
+parent_in_lem t p K None e = tt
+parent_in_lem t p K (Some h) e = live_node t p K h e
 
 -- the plan with a new node at the slot x, of the generation g
-abbrev at : Plan → OptionNodeId → LocalNode → ℕ → ℕ → Plan
+abbrev at : Plan → Option NodeId → LocalNode → ℕ → ℕ → Plan
 at p o v x g =
     record {
       links = onto o (leaf x) p.links;
@@ -67,7 +67,7 @@ pub settled_itself : (p : Plan) (y : ℕ) → Settled p y → counts_as_changed 
 unfolding times
 settled_itself p y s = any_at (counts_as_changed p) (lineage p y) s y (omega (arith, hit y))
 
-module _ (t : Tree) (p : Plan) (K : Known t p) (o : OptionNodeId) (v : LocalNode) (e : insert_verdict t o v ≡ is.Accepted) where
+module _ (t : Tree) (p : Plan) (K : Known t p) (o : Option NodeId) (v : LocalNode) (e : insert_verdict t o v ≡ Ok tt) where
   abbrev x : ℕ
   x = slot_of t.slots
 

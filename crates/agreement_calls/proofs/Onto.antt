@@ -1,4 +1,6 @@
 -- A forest with trees put last under a parent, or last of the roots: who is in it, and what is above a node of it.
+use Rattle.index_types.specs.declared.NodeId.{NodeId}
+use Rattle.std.specs.Prelude.{None, Some, Option}
 use mathlib.Core.Path.{◌≡◌, refl, sym, ◌∙◌}
 use mathlib.Core.Bool.{Bool, true, false}
 use mathlib.Core.List.{List, [], ◌∷◌}
@@ -8,8 +10,6 @@ use borrow.Author.Tests.{eqb-true}
 use lib.Dec.{eqb}
 use Rattle.counting.specs.Times.{times}
 use Rattle.counting.proofs.Counting.{hit}
-use Rattle.tree_types.specs.declared.OptionNodeId.{OptionNodeId}
-use Rattle.tree_types.specs.declared.OptionNodeId.TheVariants as node
 use Rattle.link_forest.specs.Forest.{Forest, none, tree, leaf, either, has, Distinct, cat, under, remove, kids, above, part}
 use Rattle.link_forest.proofs.Bools.{never, same_slot}
 use Rattle.link_forest.proofs.Clauses.{has_low}
@@ -18,18 +18,18 @@ use Rattle.link_forest.proofs.Holds.{Each, holds_at, each_cat, each_under, above
 use Rattle.plan.specs.Plan.{onto}
 
 -- the parent, if one is named, is in the forest
-abbrev pub Parent : OptionNodeId → Forest → Type 0
-Parent node.None f = Unit {0}
-Parent (node.Some h) f = has h.0 f ≡ true
+abbrev pub Parent : Option NodeId → Forest → Type 0
+Parent None f = Unit {0}
+Parent (Some h) f = has h.0 f ≡ true
 
-pub has_onto : (o : OptionNodeId) (t f : Forest) → Parent o f → (y : ℕ) → has y (onto o t f) ≡ either (has y f) (has y t)
-has_onto node.None t f q y = has_cat y f t
-has_onto (node.Some h) t f q y = has_under y h.0 t f q
+pub has_onto : (o : Option NodeId) (t f : Forest) → Parent o f → (y : ℕ) → has y (onto o t f) ≡ either (has y f) (has y t)
+has_onto None t f q y = has_cat y f t
+has_onto (Some h) t f q y = has_under y h.0 t f q
 
-pub above_onto : (o : OptionNodeId) (t f : Forest) → Parent o f → Distinct f → ((y : ℕ) → has y t ≡ true → has y f ≡ false) → (y : ℕ) → has y f ≡ true
+pub above_onto : (o : Option NodeId) (t f : Forest) → Parent o f → Distinct f → ((y : ℕ) → has y t ≡ true → has y f ≡ false) → (y : ℕ) → has y f ≡ true
     → above y (onto o t f) ≡ above y f
-above_onto node.None t f q once apart y h = above_cat f once t apart y h
-above_onto (node.Some n) t f q once apart y h = above_under f once t apart y h n.0 q
+above_onto None t f q once apart y h = above_cat f once t apart y h
+above_onto (Some n) t f q once apart y h = above_under f once t apart y h n.0 q
 
 -- ---- a leaf
 pub leaf_has : (x y : ℕ) → has y (leaf x) ≡ true → y ≡ x
@@ -40,7 +40,7 @@ leaf_has x y e = go (eqb x y) refl
     go true h = sym (eqb-true x y h)
     go false h = never e (rw h)
 
-module _ (o : OptionNodeId) (x : ℕ) (f : Forest) (q : Parent o f) (new : has x f ≡ false) where
+module _ (o : Option NodeId) (x : ℕ) (f : Forest) (q : Parent o f) (new : has x f ≡ false) where
   -- another node was there
   pub leaf_onto : (y : ℕ) → (y ≡ x → ⊥) → has y (onto o (leaf x) f) ≡ true → has y f ≡ true
   leaf_onto y n e = go (has y f) refl (has y (leaf x)) refl
@@ -69,12 +69,12 @@ module _ (x : ℕ) (c : Forest) where
     unfolding times
     each_part l = ((λ h. never h own), each_under_x (x ∷ l) c (omega (arith, hit x)), tt)
 
-    pub below_onto : (o : OptionNodeId) (f : Forest) → ((y : ℕ) → has y c ≡ true → has y f ≡ false) → (y : ℕ) → has y (onto o (tree x c none) f) ≡ true
+    pub below_onto : (o : Option NodeId) (f : Forest) → ((y : ℕ) → has y c ≡ true → has y f ≡ false) → (y : ℕ) → has y (onto o (tree x c none) f) ≡ true
         → has y c ≡ true → 1 ≤ times x (above y (onto o (tree x c none) f))
-    below_onto node.None f apart y h g =
+    below_onto None f apart y h g =
         holds_at (λ z d k. Under z k) y [] (cat f (tree x c none)) h
         (each_cat Under [] f (tree x c none) (each_in Under [] f (λ z k u w. never u (apart z w))) (each_part [])) g
-    below_onto (node.Some n) f apart y h g =
+    below_onto (Some n) f apart y h g =
         holds_at (λ z d k. Under z k) y [] (under n.0 (tree x c none) f) h
         (each_under Under n.0 (tree x c none) [] f (λ _. each_part (n.0 ∷ above n.0 f)) (each_in Under [] f (λ z k u w. never u (apart z w)))) g
 
@@ -88,7 +88,7 @@ part_cases x c y e n = go (eqb x y) refl (has y c) refl
     go false u false v = never e (rw (u, v))
 
 -- a node moved with what is below it: f without it, and then the whole onto its new parent
-module _ (o : OptionNodeId) (x : ℕ) (f : Forest) (once : Distinct f) (live : has x f ≡ true) (q : Parent o (remove x f)) where
+module _ (o : Option NodeId) (x : ℕ) (f : Forest) (once : Distinct f) (live : has x f ≡ true) (q : Parent o (remove x f)) where
   abbrev moved : Forest
   moved = onto o (part x f) (remove x f)
 

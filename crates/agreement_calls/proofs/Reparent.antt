@@ -1,4 +1,5 @@
 -- An accepted reparent leaves a tree and a plan that agree.
+use Rattle.std.specs.Prelude.{Ok, None, Some, Option}
 use mathlib.Core.Path.{◌≡◌, refl, sym, ap, subst, ◌∙◌}
 use mathlib.Core.Bool.{Bool, true, false, ◌&&◌, ◌||◌}
 use Prim.Native.Nat.{ℕ}
@@ -7,12 +8,9 @@ use native.Mathlib.Decide.{ℕ_discrete}
 use lib.Seq.{get_or-set_same, get_or-set_other}
 use Rattle.counting.specs.Times.{times}
 use Rattle.index_types.specs.declared.NodeId.{NodeId}
-use Rattle.tree_types.specs.declared.OptionNodeId.{OptionNodeId}
-use Rattle.tree_types.specs.declared.OptionNodeId.TheVariants as node
 use Rattle.link_forest.specs.Forest.{Forest, has, Distinct, remove, part}
 use Rattle.link_forest.proofs.Counting.{remove_has}
 use Rattle.tree_state.specs.declared.Tree.{Tree}
-use Rattle.tree_state.specs.declared.Verdict.TheVariants as is
 use Rattle.tree_state.specs.Tree.{local_at}
 use Rattle.tree_steps.specs.Structure.{reparent_verdict, reparent_tree}
 use Rattle.tree_invariant.proofs.calls.Accepted.{reparent_accepted}
@@ -33,11 +31,11 @@ use Rattle.agreement_calls.proofs.Insert.{parent_in_lem, changed_unsettled, sett
 use Rattle.agreement_calls.proofs.Onto.{Parent, moved_has, moved_above, moved_below}
 
 -- a parent that is not the node or below it stays when the node is taken out
-parent_stays : (o : OptionNodeId) (x : ℕ) (p : Plan) → has x p.links ≡ true → Parent o p.links → plan.at_or_below p x o ≡ false → Parent o (remove x p.links)
-parent_stays node.None x p live q b = tt
-parent_stays (node.Some h) x p live q b = remove_has h.0 x p.links live q b
+parent_stays : (o : Option NodeId) (x : ℕ) (p : Plan) → has x p.links ≡ true → Parent o p.links → plan.at_or_below p x o ≡ false → Parent o (remove x p.links)
+parent_stays None x p live q b = tt
+parent_stays (Some h) x p live q b = remove_has h.0 x p.links live q b
 
-module _ (t : Tree) (p : Plan) (K : Known t p) (i : NodeId) (o : OptionNodeId) (e : reparent_verdict t i o ≡ is.Accepted) where
+module _ (t : Tree) (p : Plan) (K : Known t p) (i : NodeId) (o : Option NodeId) (e : reparent_verdict t i o ≡ Ok tt) where
   abbrev x : ℕ
   x = i.0
 

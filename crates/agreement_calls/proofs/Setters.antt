@@ -1,4 +1,5 @@
 -- An accepted setter leaves a tree and a plan that agree.
+use Rattle.std.specs.Prelude.{Ok}
 use mathlib.Core.Path.{◌≡◌, refl, sym, ap, subst, ◌∙◌}
 use mathlib.Core.Bool.{Bool, true, false, ◌&&◌, ◌||◌}
 use Prim.Native.Nat.{ℕ, ◌<◌}
@@ -29,7 +30,6 @@ use Rattle.tree_state.specs.declared.Marks.{Marks}
 use Rattle.tree_state.specs.declared.Tree.{Tree}
 use Rattle.tree_state.specs.declared.Refusal.{Refusal}
 use Rattle.tree_state.specs.declared.Refusal.TheVariants as no
-use Rattle.tree_state.specs.declared.Verdict.TheVariants as is
 use Rattle.tree_state.specs.Tree as tree
 use Rattle.tree_state.specs.Tree.{local_at, clip_of, checked}
 use Rattle.tree_state.specs.Sound.{SoundTree}
@@ -37,7 +37,7 @@ use Rattle.tree_steps.specs.Setters as set
 use Rattle.tree_steps.specs.Setters.{held, of_node, with_locals, store_transform, store_clip, store_bounds, store_slop, store_level, store_flags, unless, set_transform, set_clip, set_bounds, set_slop, set_level, set_flags, transform_verdict, clip_verdict, bounds_verdict, slop_verdict, flags_verdict}
 use Rattle.tree_invariant.proofs.calls.Accepted.{checked_both}
 use Rattle.tree_invariant.proofs.calls.Setters.{keep_set_transform, keep_set_clip, keep_set_bounds, keep_set_slop, keep_set_level, keep_set_flags}
-use Rattle.tree_laws.specs.Whole.{Whole}
+use Rattle.tree_state.specs.Whole.{Whole}
 use Rattle.tree_laws.proofs.Ground.{low}
 use Rattle.plan.specs.Plan as plan
 use Rattle.plan.specs.Plan.{Plan, Mark, with_local, set_unless}
@@ -54,10 +54,10 @@ module _ (t : Tree) (p : Plan) (K : Known t p) where
   pub live_node : (i : NodeId) → tree.live t i ≡ true → has i.0 p.links ≡ true
   live_node i e = and_left (has i.0 p.links) (eqb (p.slots.generation i.0) i.1) (sym (live_same t p K i) ∙ e)
 
-  pub of_node_lem : (i : NodeId) → of_node t i ≡ is.Accepted → has i.0 p.links ≡ true
+  pub of_node_lem : (i : NodeId) → of_node t i ≡ Ok tt → has i.0 p.links ≡ true
   of_node_lem i e = live_node i (checked_both (held t) (tree.live t i) no.DeadNode e).1
 
-  of_value_lem : (i : NodeId) (b : Bool) (r : Refusal) → checked (of_node t i) b r ≡ is.Accepted → has i.0 p.links ≡ true
+  of_value_lem : (i : NodeId) (b : Bool) (r : Refusal) → checked (of_node t i) b r ≡ Ok tt → has i.0 p.links ≡ true
   of_value_lem i b r e = of_node_lem i (checked_both (of_node t i) b r e).0
 
 -- ---- new local records and marks, of one node
@@ -335,7 +335,7 @@ module _ (t : Tree) (p : Plan) (K : Known t p) (x : ℕ) (live : has x p.links �
   same_slop = ap (λ (w : LocalNode). w.hit_slop) local
 
 module _ (t : Tree) (p : Plan) (K : Known t p) (i : NodeId) where
-  pub transform_known : (a : Affine) → transform_verdict t i a ≡ is.Accepted
+  pub transform_known : (a : Affine) → transform_verdict t i a ≡ Ok tt
       → Known (set_transform t i.0 a) (accepted p (call.set_local_transform i a))
   unfolding set_transform accepted
   transform_known a e =
@@ -346,7 +346,7 @@ module _ (t : Tree) (p : Plan) (K : Known t p) (i : NodeId) where
       (sets_transform t p K x live a) (affine_eq (affine_at t.locals.transform x) a) (affine_eq (p.local x).local_transform a)
       (ap (λ (b : Affine). affine_eq b a) (same_transform t p K x live)) k.0 k.1
 
-  pub clip_known : (c : Clip) → clip_verdict t i c ≡ is.Accepted
+  pub clip_known : (c : Clip) → clip_verdict t i c ≡ Ok tt
       → Known (set_clip t i.0 c) (accepted p (call.set_local_clip i c))
   unfolding set_clip accepted
   clip_known c e =
@@ -357,7 +357,7 @@ module _ (t : Tree) (p : Plan) (K : Known t p) (i : NodeId) where
       (sets_clip t p K x live (constructed c)) (clip_eq (clip_of t x) (constructed c)) (clip_eq (p.local x).local_clip (constructed c))
       (ap (λ (b : Clip). clip_eq b (constructed c)) (same_clip t p K x live)) k.0 k.1
 
-  pub bounds_known : (r : Rect) → bounds_verdict t i r ≡ is.Accepted
+  pub bounds_known : (r : Rect) → bounds_verdict t i r ≡ Ok tt
       → Known (set_bounds t i.0 r) (accepted p (call.set_local_bounds i r))
   unfolding set_bounds accepted
   bounds_known r e =
@@ -368,7 +368,7 @@ module _ (t : Tree) (p : Plan) (K : Known t p) (i : NodeId) where
       (sets_bounds t p K x live r) (rect_eq (rect_at t.locals.bounds x) r) (rect_eq (p.local x).local_bounds r)
       (ap (λ (b : Rect). rect_eq b r) (same_bounds t p K x live)) k.0 k.1
 
-  pub slop_known : (v : Insets) → slop_verdict t i v ≡ is.Accepted
+  pub slop_known : (v : Insets) → slop_verdict t i v ≡ Ok tt
       → Known (set_slop t i.0 v) (accepted p (call.set_hit_slop i v))
   unfolding set_slop accepted
   slop_known v e =
@@ -379,7 +379,7 @@ module _ (t : Tree) (p : Plan) (K : Known t p) (i : NodeId) where
       (sets_slop t p K x live v) (insets_eq (insets_at t.locals.slop x) v) (insets_eq (p.local x).hit_slop v)
       (ap (λ (b : Insets). insets_eq b v) (same_slop t p K x live)) k.0 k.1
 
-  pub level_known : (z : ℤ) → of_node t i ≡ is.Accepted
+  pub level_known : (z : ℤ) → of_node t i ≡ Ok tt
       → Known (set_level t i.0 z) (accepted p (call.set_z_index i z))
   unfolding set_level accepted
   level_known z e =
@@ -387,7 +387,7 @@ module _ (t : Tree) (p : Plan) (K : Known t p) (i : NodeId) where
       let k = keep_set_level t i z K.whole K.sound e in
       set_known t p K x (store_level t.locals x z) t.marks (with_level z (p.local x)) (p.mark x) (sets_level t p K x (of_node_lem t p K i e) z) k.0 k.1
 
-  pub flags_known : (f : NodeFlags) → flags_verdict t i f ≡ is.Accepted
+  pub flags_known : (f : NodeFlags) → flags_verdict t i f ≡ Ok tt
       → Known (set_flags t i.0 f) (accepted p (call.set_flags i f))
   unfolding set_flags accepted
   flags_known f e =

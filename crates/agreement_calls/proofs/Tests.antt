@@ -1,4 +1,5 @@
 -- The tests of the calls, on a tree and a plan that agree: each answers the same on both.
+use Rattle.std.specs.Prelude.{Ok, None, Some, Option}
 use mathlib.Core.Path.{◌≡◌, refl, sym, ap, ◌∙◌}
 use mathlib.Core.Bool.{Bool, true, false, not, ◌||◌}
 use mathlib.Core.List.{List, [], ◌∷◌}
@@ -14,14 +15,11 @@ use Rattle.counting.proofs.Counting.{hit}
 use Rattle.counting.proofs.Kit.{contra, same}
 use Rattle.counting.proofs.Words.{seen}
 use Rattle.index_types.specs.declared.NodeId.{NodeId}
-use Rattle.tree_types.specs.declared.OptionNodeId.{OptionNodeId}
-use Rattle.tree_types.specs.declared.OptionNodeId.TheVariants as node
 use Rattle.link_forest.specs.Forest.{pre, has}
 use Rattle.link_forest.proofs.Counting.{count_pre, count_has}
 use Rattle.tree_state.specs.declared.Tree.{Tree}
-use Rattle.tree_state.specs.declared.Verdict.TheVariants as is
 use Rattle.tree_state.specs.Tree as tree
-use Rattle.tree_state.specs.Tree.{live_slots, position_of, marked_at, entry_mark, is_removed, any_of, some, checked, checked_next}
+use Rattle.tree_state.specs.Tree.{live_slots, position_of, marked_at, entry_mark, is_removed, any_of, some}
 use Rattle.tree_state.specs.Sound.{count_below}
 use Rattle.tree_sound.proofs.Exact.{decides}
 use Rattle.tree_steps.specs.Setters.{held}
@@ -100,20 +98,19 @@ module _ (t : Tree) (p : Plan) (K : Known t p) where
   unfolding tree.live
   live_same i = rw (live_has t p.links K.same.links i.0, K.same.generation i.0)
 
-  pub parent_live_same : (o : OptionNodeId) → structure.parent_live t o ≡ plan.parent_live p o
-  parent_live_same node.None = refl
-  parent_live_same (node.Some h) = live_same h
+  pub parent_live_same : (o : Option NodeId) → structure.parent_live t o ≡ plan.parent_live p o
+  parent_live_same None = refl
+  parent_live_same (Some h) = live_same h
 
   -- of a node that is there
-  pub at_or_below_same : (x : ℕ) → has x p.links ≡ true → (o : OptionNodeId) → structure.at_or_below t (position_of t x) o ≡ plan.at_or_below p x o
-  at_or_below_same x h node.None = refl
-  at_or_below_same x h (node.Some i) = sym (below_by_places t p.links K.same.links x h i.0)
+  pub at_or_below_same : (x : ℕ) → has x p.links ≡ true → (o : Option NodeId) → structure.at_or_below t (position_of t x) o ≡ plan.at_or_below p x o
+  at_or_below_same x h None = refl
+  at_or_below_same x h (Some i) = sym (below_by_places t p.links K.same.links x h i.0)
 
   pub room_same : ltb t.links.count 256 ≡ not (full p)
   room_same = ltb_not t.links.count 256 ∙ rw K.same.links.rep.counted
 
-  pub held_accepted : held t ≡ is.Accepted
-  unfolding checked checked_next
+  pub held_accepted : held t ≡ Ok tt
   held_accepted = rw ((decides t (sized t K.whole)).1 K.sound)
 
   -- a slot of the table is live

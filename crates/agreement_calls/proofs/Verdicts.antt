@@ -1,4 +1,5 @@
 -- Each call is refused alike on a tree and a plan that agree, and an insert hands out the same id.
+use Rattle.std.specs.Prelude.{Ok, Err, Option}
 use mathlib.Core.Path.{◌≡◌, refl, sym, ap, ◌∙◌}
 use mathlib.Core.Bool.{Bool, true, false, not}
 use mathlib.Core.List.{List, [], ◌∷◌, reverse, reverse-append}
@@ -22,16 +23,13 @@ use Rattle.geometry_clips.specs.Clips.{finite_clip}
 use Rattle.index_types.specs.declared.NodeId.{NodeId}
 use Rattle.tree_types.specs.declared.NodeFlags.{NodeFlags}
 use Rattle.tree_types.specs.declared.LocalNode.{LocalNode}
-use Rattle.tree_types.specs.declared.OptionNodeId.{OptionNodeId}
 use Rattle.tree_types.specs.Local.{finite_local, known}
 use Rattle.link_forest.specs.Forest.{has}
 use Rattle.tree_state.specs.declared.Tree.{Tree}
 use Rattle.tree_state.specs.declared.Refusal.{Refusal}
 use Rattle.tree_state.specs.declared.Refusal.TheVariants as no
-use Rattle.tree_state.specs.declared.Verdict.{Verdict}
-use Rattle.tree_state.specs.declared.Verdict.TheVariants as is
 use Rattle.tree_state.specs.Tree as tree
-use Rattle.tree_state.specs.Tree.{position_of, number_of, number_in, checked, checked_next}
+use Rattle.tree_state.specs.Tree.{position_of, number_of, number_in, checked, Verdict}
 use Rattle.tree_steps.specs.Setters as set
 use Rattle.tree_steps.specs.Setters.{held}
 use Rattle.tree_steps.specs.Structure as structure
@@ -48,21 +46,21 @@ use Rattle.agreement_calls.proofs.Tests.{live_same, parent_live_same, at_or_belo
 
 -- the number of a verdict, and where it is accepted that of the conditions still to come
 abbrev onward : Verdict → Conditions → ℕ
-onward is.Accepted c = lowest c
-onward (is.Refused r) c = number_of r
+onward (Ok tt) c = lowest c
+onward (Err r) c = number_of r
 
 checked_next_lem : (v : Verdict) (b : Bool) (r : Refusal) (c : Conditions) → onward (checked v b r) c ≡ onward v (b else number_of r then c)
-unfolding checked checked_next lowest
-checked_next_lem is.Accepted true r c = refl
-checked_next_lem is.Accepted false r c = refl
-checked_next_lem (is.Refused q) b r c = refl
+unfolding lowest
+checked_next_lem (Ok tt) true r c = refl
+checked_next_lem (Ok tt) false r c = refl
+checked_next_lem (Err q) b r c = refl
 
 number_onward : (v : Verdict) → number_in v ≡ onward v accept
 unfolding number_in lowest
-number_onward is.Accepted = refl
-number_onward (is.Refused r) = refl
+number_onward (Ok tt) = refl
+number_onward (Err r) = refl
 
-module _ (v : Verdict) (h : v ≡ is.Accepted) where
+module _ (v : Verdict) (h : v ≡ Ok tt) where
   accepted_onward : (c : Conditions) → onward v c ≡ lowest c
   accepted_onward c = rw h
 
@@ -136,7 +134,7 @@ module _ (t : Tree) (p : Plan) (K : Known t p) where
   new_id_same = rw (generation_same, slot_same)
 
   -- ---- the calls
-  accepts : held t ≡ is.Accepted
+  accepts : held t ≡ Ok tt
   accepts = held_accepted t p K
 
   pub none_refused : number_in (held t) ≡ 0
@@ -154,7 +152,7 @@ module _ (t : Tree) (p : Plan) (K : Known t p) where
   unfolding number_of
   of_node_and i b r = two_checks (held t) accepts (tree.live t i) no.DeadNode b r ∙ rw (live_same t p K i)
 
-  pub insert_refused : (o : OptionNodeId) (v : LocalNode) → number_in (structure.insert_verdict t o v) ≡ refusal p (call.insert o v)
+  pub insert_refused : (o : Option NodeId) (v : LocalNode) → number_in (structure.insert_verdict t o v) ≡ refusal p (call.insert o v)
   unfolding refusal number_of
   insert_refused o v =
       four_checks (held t) accepts (structure.parent_live t o) no.DeadParent (finite_local v) no.NotFinite (known v.flags) no.UnknownFlags
@@ -165,7 +163,7 @@ module _ (t : Tree) (p : Plan) (K : Known t p) where
   unfolding refusal
   remove_refused i = of_node_refused i
 
-  pub reparent_refused : (i : NodeId) (o : OptionNodeId) → number_in (structure.reparent_verdict t i o) ≡ refusal p (call.reparent i o)
+  pub reparent_refused : (i : NodeId) (o : Option NodeId) → number_in (structure.reparent_verdict t i o) ≡ refusal p (call.reparent i o)
   unfolding refusal number_of
   reparent_refused i o =
       three_checks (held t) accepts (tree.live t i) no.DeadNode (structure.parent_live t o) no.DeadParent

@@ -1,4 +1,5 @@
 -- The refusals of a call: what its number says of its conditions, of what it tells and of what it leaves.
+use Rattle.std.specs.Prelude.{Result, Ok, Err, if◌then◌else◌}
 use mathlib.Core.Path.{◌≡◌, refl, sym, ◌∙◌, ap}
 use mathlib.Core.Bool.{Bool, true, false, ◌&&◌}
 use Prim.Native.Nat.{ℕ, zero, suc, ◌≤◌, ◌<◌}
@@ -90,3 +91,8 @@ module _ {A : Type 0} where
   unfolding left_if
   left_keeps P zero before after b a = a refl
   left_keeps P (suc n) before after b a = b
+
+-- ---- a condition that was asked, and held
+pub passed : {E : Type 0} (holds : Bool) (u : Unit) (refusal : E) → ◌≡◌ {A = Result Unit E} (Ok u) (if holds then Ok tt else Err refusal) → holds ≡ true
+passed true u r h = refl
+passed false u r h = cc

@@ -1,5 +1,6 @@
 -- The damage of a commit after every list of calls (specs/Damage.antt): the boxes that the tree stores of live nodes are those that were shown, its
 -- pending rectangles are those of the nodes that went, and a commit gives of each visited node the box that stood there and the one worked out afresh.
+use Rattle.std.specs.Prelude.{Ok, Err, Option}
 use mathlib.Core.Path.{◌≡◌, refl, sym, ap, ap₂, subst, ◌∙◌}
 use mathlib.Core.Bool.{Bool, true, false, not, ◌||◌, cond}
 use mathlib.Core.List.{List, [], ◌∷◌, ◌++◌, map, append-nil, append_assoc}
@@ -21,7 +22,6 @@ use Rattle.geometry.specs.Transform.{affine_eq}
 use Rattle.geometry_clips.specs.Clips.{constructed, clip_eq}
 use Rattle.index_types.specs.declared.NodeId.{NodeId}
 use Rattle.tree_types.specs.declared.LocalNode.{LocalNode}
-use Rattle.tree_types.specs.declared.OptionNodeId.{OptionNodeId}
 use Rattle.tree_types.specs.Local as local
 use Rattle.tree_types.specs.Local.{empty_rect}
 use Rattle.node_tables.specs.Tables.{rect_at, put_rect, insets_at, affine_at}
@@ -34,9 +34,7 @@ use Rattle.tree_state.specs.declared.Marks.{Marks}
 use Rattle.tree_state.specs.declared.Pending.{Pending}
 use Rattle.tree_state.specs.declared.Tree.{Tree}
 use Rattle.tree_state.specs.declared.Refusal.TheVariants as no
-use Rattle.tree_state.specs.declared.Verdict.{Verdict}
-use Rattle.tree_state.specs.declared.Verdict.TheVariants as is
-use Rattle.tree_state.specs.Tree.{fresh_tree, number_in, position_of, clip_of, stored_bounds, needs_commit}
+use Rattle.tree_state.specs.Tree.{fresh_tree, number_in, position_of, clip_of, stored_bounds, needs_commit, Verdict}
 use Rattle.tree_state.specs.Sound.{SoundTree, count_of}
 use Rattle.tree_steps.specs.Setters as set
 use Rattle.tree_steps.specs.Commit.{Work, new_place, if_area, damage_of, rework, rework_all, rects_of, begun, visits_of, work_for, commit_tree, commit_verdict, numbers_of, rects_in_front}
@@ -44,7 +42,7 @@ use Rattle.tree_steps.specs.Structure as structure
 use Rattle.tree_steps.specs.Structure.{push_rect}
 use Rattle.tree_commit.specs.Commit.{commit_call, after_work, commit_room, room_after}
 use Rattle.tree_damage.proofs.Front.{rects_front, numbers_length, union_front}
-use Rattle.tree_laws.specs.Whole.{Whole, WholeWorlds}
+use Rattle.tree_state.specs.Whole.{Whole, WholeWorlds}
 use Rattle.tree_laws.proofs.Ground.{Linked, low, slot_live}
 use Rattle.tree_visits.proofs.Laws.{visits_low}
 use Rattle.tree_visits.proofs.Slots.{slots_once}
@@ -59,7 +57,7 @@ use Rattle.agreement_calls.proofs.Setters as setter
 use Rattle.agreement_calls.proofs.commit.Visited.{visited_linked}
 use Rattle.agreement_calls.proofs.commit.Visits.{visits_same}
 use Rattle.tree_invariant.proofs.calls.Accepted.{checked_both, insert_accepted}
-use Rattle.tree_invariant.proofs.calls.Links.{new_low}
+use Rattle.tree_laws.proofs.Taken.{new_low}
 use Rattle.tree_invariant.proofs.remove.Counts.{joined_same}
 use Rattle.tree_invariant.proofs.remove.Keep as kept
 use Rattle.tree_invariant.specs.remove.Removals.{pending_all}
@@ -258,7 +256,7 @@ shows_set b t l n c p x v m s H =
     let u = unless_stays b t l n in
     stays t (set.unless b t (set.with_locals t l n)) p (plan.set_unless c p x v m) s u.0 u.1 (set_was c p x v m) H
 
-shows_insert : (t : Tree) (p : Plan) (s : Shown) → Meets t p → Shows t p s → (o : OptionNodeId) (v : LocalNode) → structure.insert_verdict t o v ≡ is.Accepted
+shows_insert : (t : Tree) (p : Plan) (s : Shown) → Meets t p → Shows t p s → (o : Option NodeId) (v : LocalNode) → structure.insert_verdict t o v ≡ Ok tt
     → Shows (structure.insert_tree t o v) (call.accepted p (call.insert o v)) (shown_after p s (call.insert o v))
 unfolding structure.insert_tree
 shows_insert t p s M H o v e = record { box = box; gone = H.gone; areas = H.areas }
@@ -280,7 +278,7 @@ shows_insert t p s M H o v e = record { box = box; gone = H.gone; areas = H.area
           | no n ↦ rect_other t.worlds.bounds x empty_rect y n ∙ H.box y (inserted_was t p K o v e y h n) ∙ sym (put_other s.box x empty_rect y n)
         ])
 
-shows_remove : (t : Tree) (p : Plan) (s : Shown) → Meets t p → Shows t p s → (i : NodeId) → set.of_node t i ≡ is.Accepted
+shows_remove : (t : Tree) (p : Plan) (s : Shown) → Meets t p → Shows t p s → (i : NodeId) → set.of_node t i ≡ Ok tt
     → Shows (structure.remove_tree t (position_of t i.0)) (call.accepted p (call.remove i)) (shown_after p s (call.remove i))
 unfolding call.accepted
 shows_remove t p s M H i e =
@@ -324,7 +322,7 @@ shows_commit t p M =
     let none = (commit_calm t (M.known.whole, M.known.sound)).none_pending in
     record { box = λ x h. (A.boxes x h).bounds; gone = ap (rects_of (commit_tree t).tree.pending.rects) none; areas = tt }
 
-accepted_shows : (t : Tree) (p : Plan) (s : Shown) → Meets t p → Shows t p s → (c : Call) → verdict t c ≡ is.Accepted → Shows (accepted t c) (call.accepted p c) (shown_after p s c)
+accepted_shows : (t : Tree) (p : Plan) (s : Shown) → Meets t p → Shows t p s → (c : Call) → verdict t c ≡ Ok tt → Shows (accepted t c) (call.accepted p c) (shown_after p s c)
 unfolding verdict accepted call.accepted structure.reparent_tree set.set_transform set.set_clip set.set_bounds set.set_slop set.set_level set.set_flags
 accepted_shows t p s M H (call.insert o v) e = shows_insert t p s M H o v e
 accepted_shows t p s M H (call.remove i) e = shows_remove t p s M H i e
@@ -358,12 +356,12 @@ accepted_shows t p s M H (call.request q asked room) e = H
 
 -- accepted on the tree where the plan refuses nothing
 shows_with : (v : Verdict) (n : ℕ) (t : Tree) (p : Plan) (s : Shown) (c : Call) → number_in v ≡ n → Shows t p s
-    → (v ≡ is.Accepted → Shows (accepted t c) (call.accepted p c) (shown_after p s c)) → Shows (set.tree_if v (accepted t c) t) (call.step_if n p c) (shown_if n p s c)
+    → (v ≡ Ok tt → Shows (accepted t c) (call.accepted p c) (shown_after p s c)) → Shows (set.tree_if v (accepted t c) t) (call.step_if n p c) (shown_if n p s c)
 unfolding number_in
-shows_with is.Accepted zero t p s c e H done = done refl
-shows_with is.Accepted (suc n) t p s c e H done = absurd (omega arith)
-shows_with (is.Refused r) zero t p s c e H done = absurd (some_number r e)
-shows_with (is.Refused r) (suc n) t p s c e H done = H
+shows_with (Ok tt) zero t p s c e H done = done refl
+shows_with (Ok tt) (suc n) t p s c e H done = absurd (omega arith)
+shows_with (Err r) zero t p s c e H done = absurd (some_number r e)
+shows_with (Err r) (suc n) t p s c e H done = H
 
 step_shows : (t : Tree) (s : Seen) → Meets t s.plan → Shows t s.plan s.shown → (c : Call) → Shows (tree.step t c) (see s c).plan (see s c).shown
 unfolding see call.step
@@ -403,7 +401,7 @@ areas_rects t s H =
     (areas_joined (λ x. damage_of (s.shown.box x) (world_bounds p x)) (λ x. areas_of (s.shown.box x) (world_bounds p x)) (visits p))
 
 -- the rectangles in front of a room that holds 512
-in_room : (t : Tree) (room : List Float) (rs : List Rect) → commit_verdict t (length room) ≡ is.Accepted → (commit_tree t).damage ≡ rs → length rs ≤ 512 → Areas rs → Damage t room rs
+in_room : (t : Tree) (room : List Float) (rs : List Rect) → commit_verdict t (length room) ≡ Ok tt → (commit_tree t).damage ≡ rs → length rs ≤ 512 → Areas rs → Damage t room rs
 unfolding commit_call after_work commit_room room_after rects_in_front
 in_room t room rs ok e few areas =
     record {

@@ -1,4 +1,6 @@
 -- Refusal 9 of a sound tree, both ways: an insert that no lower number refuses is refused by 9 if and only if 256 nodes are live.
+use Rattle.index_types.specs.declared.NodeId.{NodeId}
+use Rattle.std.specs.Prelude.{Ok, Err, Option}
 use mathlib.Core.Path.{◌≡◌, refl, sym, ap, fun_ext, ◌∙◌}
 use mathlib.Core.Bool.{Bool, true, false}
 use mathlib.Core.List.{List, [], ◌∷◌}
@@ -13,19 +15,16 @@ use Rattle.counting.specs.Times.{times}
 use Rattle.counting.proofs.Counting.{hit, miss}
 use Rattle.link_forest.proofs.Rep.{rep_times}
 use Rattle.tree_types.specs.declared.LocalNode.{LocalNode}
-use Rattle.tree_types.specs.declared.OptionNodeId.{OptionNodeId}
 use Rattle.tree_types.specs.Local.{finite_local, known}
 use Rattle.tree_state.specs.declared.Tree.{Tree}
 use Rattle.tree_state.specs.declared.Refusal.{Refusal}
 use Rattle.tree_state.specs.declared.Refusal.TheVariants as no
-use Rattle.tree_state.specs.declared.Verdict.{Verdict}
-use Rattle.tree_state.specs.declared.Verdict.TheVariants as is
-use Rattle.tree_state.specs.Tree.{number_of, number_in, checked, checked_next, live_slots}
+use Rattle.tree_state.specs.Tree.{number_of, number_in, checked, checked_next, live_slots, Verdict}
 use Rattle.tree_state.specs.Sound.{SoundTree, count_below}
 use Rattle.tree_sound.proofs.Exact.{decides, live_is}
 use Rattle.tree_steps.specs.Setters.{held}
 use Rattle.tree_steps.specs.Structure.{parent_live, insert_verdict}
-use Rattle.tree_laws.specs.Whole.{Whole}
+use Rattle.tree_state.specs.Whole.{Whole}
 use Rattle.tree_laws.proofs.Whole.{sized}
 use Rattle.tree_laws.proofs.Ground.{linked}
 use Rattle.tree_invariant.proofs.calls.Accepted.{checked_both}
@@ -69,18 +68,18 @@ module _ (t : Tree) (w : Whole t) (S : SoundTree t) where
 
 -- no refusal before the last test is 9
 other : (v : Verdict) (b : Bool) (r : Refusal) → (number_of r ≡ 9 → ⊥) → (number_in v ≡ 9 → ⊥) → number_in (checked v b r) ≡ 9 → ⊥
-unfolding checked checked_next number_in
-other is.Accepted true r o n e = n e
-other is.Accepted false r o n e = o e
-other (is.Refused q) b r o n e = n e
+unfolding number_in
+other (Ok tt) true r o n e = n e
+other (Ok tt) false r o n e = o e
+other (Err q) b r o n e = n e
 
-last : (v : Verdict) (b : Bool) → (number_in v ≡ 9 → ⊥) → number_in (checked v b no.Full) ≡ 9 → (v ≡ is.Accepted) × (b ≡ false)
-unfolding checked checked_next number_in
-last is.Accepted true n e = absurd (omega arith)
-last is.Accepted false n e = (refl, refl)
-last (is.Refused q) b n e = absurd (n e)
+last : (v : Verdict) (b : Bool) → (number_in v ≡ 9 → ⊥) → number_in (checked v b no.Full) ≡ 9 → (v ≡ Ok tt) × (b ≡ false)
+unfolding number_in
+last (Ok tt) true n e = absurd (omega arith)
+last (Ok tt) false n e = (refl, refl)
+last (Err q) b n e = absurd (n e)
 
-module _ (t : Tree) (w : Whole t) (S : SoundTree t) (parent : OptionNodeId) (v : LocalNode) where
+module _ (t : Tree) (w : Whole t) (S : SoundTree t) (parent : Option NodeId) (v : LocalNode) where
   abbrev first : Verdict
   first = checked (held t) (parent_live t parent) no.DeadParent
 
@@ -94,8 +93,7 @@ module _ (t : Tree) (w : Whole t) (S : SoundTree t) (parent : OptionNodeId) (v :
   unfolding verdict
   refused_is = ap (λ (o : Outcome). o.refused) (outcome_is t (call.insert parent v))
 
-  sound : held t ≡ is.Accepted
-  unfolding checked checked_next
+  sound : held t ≡ Ok tt
   sound = rw ((decides t (sized t w)).1 S)
 
   not_9 : number_in third ≡ 9 → ⊥
@@ -115,15 +113,14 @@ module _ (t : Tree) (w : Whole t) (S : SoundTree t) (parent : OptionNodeId) (v :
       )
 
   by_count : (b : Bool) → ltb t.links.count 256 ≡ b → Insertable t parent v → (tree.outcome t (call.insert parent v)).refused ≡ number_in (checked_next b no.Full)
-  unfolding checked checked_next
   by_count b e I = refused_is ∙ ap number_in (rw (sound, I.parent_live, I.finite, I.flags_known, e))
 
   always : Insertable t parent v → live_nodes t ≡ 256 → (tree.outcome t (call.insert parent v)).refused ≡ 9
-  unfolding checked_next number_in number_of
+  unfolding number_in number_of
   always I n = by_count false (le-ltb t.links.count 256 (omega (arith, all_live t w S))) I
 
   else_accepted : Insertable t parent v → (live_nodes t ≡ 256 → ⊥) → (tree.outcome t (call.insert parent v)).refused ≡ 0
-  unfolding checked_next number_in
+  unfolding number_in
   else_accepted I n =
       elim (dec_lt t.links.count 256) [
         | yes l ↦ by_count true (lt-ltb t.links.count 256 l) I

@@ -1,5 +1,6 @@
 -- The readings of links after any list of calls from fresh, on the plan: children in order, the parent, the neighbours in the walk; and the same of
 -- the answers that the contracts settle (`..-told`), the ids of `children_of` read back from its room.
+use Rattle.std.specs.Prelude.{None, Some, Option, Ok}
 use mathlib.Core.Path.{◌≡◌, refl, ap, ap₂, ◌∙◌}
 use mathlib.Core.Bool.{true, cond}
 use mathlib.Core.List.{List, [], ◌∷◌, map}
@@ -7,8 +8,6 @@ use Prim.Native.Nat.{ℕ}
 use lib.Dec.{ltb}
 use lib.ListN.{length}
 use Rattle.index_types.specs.declared.NodeId.{NodeId}
-use Rattle.tree_types.specs.declared.OptionNodeId.{OptionNodeId}
-use Rattle.tree_types.specs.declared.OptionNodeId.TheVariants as node
 use Rattle.link_forest.specs.Forest.{has, above, children}
 use Rattle.link_forest.specs.Walk.{next, prev}
 use Rattle.tree_state.specs.declared.Tree.{Tree}
@@ -20,23 +19,23 @@ use Rattle.plan.specs.Plan.{Plan, id_of}
 use Rattle.plan.specs.Calls as call
 use Rattle.plan.specs.Calls.{Call, accept, ◌else◌then◌, room_for_ids}
 use Rattle.plan.specs.Demand.{answer_if, listed}
-use Rattle.tree_readings.specs.answers.Answers as reads
-use Rattle.tree_run.specs.Told.{children_told}
+use Rattle.tree_readings.specs.Answers as reads
+use Rattle.tree_run.specs.Told.{listing_told}
 use Rattle.agreement_calls.proofs.Verdicts.{children_reading_refused}
-use Rattle.tree_run.proofs.Verdicts.{children_is}
+use Rattle.tree_run.proofs.Verdicts.{listing_is}
 use Rattle.demand3.proofs.Theorem.{answer_with}
 use Rattle.demand3.proofs.Soundness.{meets_after}
 use Rattle.demand3.specs.Claims.{after}
 use Rattle.demand3.proofs.Readings.{node_there, plan_after, Answered, accepted}
 
 -- the first of a list, or none
-abbrev pub first_of : Plan → List ℕ → OptionNodeId
-first_of p [] = node.None
-first_of p (x ∷ xs) = node.Some (id_of p x)
+abbrev pub first_of : Plan → List ℕ → Option NodeId
+first_of p [] = None
+first_of p (x ∷ xs) = Some (id_of p x)
 
 -- a node of the plan; none for 256
-abbrev pub node_on : Plan → ℕ → OptionNodeId
-node_on p y = cond (ltb y 256) (node.Some (id_of p y)) node.None
+abbrev pub node_on : Plan → ℕ → Option NodeId
+node_on p y = cond (ltb y 256) (Some (id_of p y)) None
 
 module _ (calls : List Call) where
   abbrev t : Tree
@@ -57,7 +56,7 @@ module _ (calls : List Call) where
 
   same_first : (l : List ℕ) → nearest t l ≡ first_of p l
   same_first [] = refl
-  same_first (y ∷ l) = ap node.Some (same_id_lem y)
+  same_first (y ∷ l) = ap Some (same_id_lem y)
 
   module _ (x : ℕ) (there : has x p.links ≡ true) where
     is_live_lem : is_live t x ≡ true
@@ -72,33 +71,33 @@ module _ (calls : List Call) where
     pub next_after : next_of t x ≡ node_on p (next 256 p.links x)
     next_after =
         let y = next 256 p.links x in
-        next_is t p.links linked x is_live_lem ∙ ap (λ (i : NodeId). cond (ltb y 256) (node.Some i) node.None) (same_id_lem y)
+        next_is t p.links linked x is_live_lem ∙ ap (λ (i : NodeId). cond (ltb y 256) (Some i) None) (same_id_lem y)
 
     pub prev_after : prev_of t x ≡ node_on p (prev 256 p.links x)
     prev_after =
         let y = prev 256 p.links x in
-        prev_is t p.links linked x is_live_lem ∙ ap (λ (i : NodeId). cond (ltb y 256) (node.Some i) node.None) (same_id_lem y)
+        prev_is t p.links linked x is_live_lem ∙ ap (λ (i : NodeId). cond (ltb y 256) (Some i) None) (same_id_lem y)
 
   -- what `children_of` tells: refused as the plan refuses it, or the ids of the plan's children, read back from the room after the call
   pub children_told_lem : (i : NodeId) (room : List ℕ)
-      → children_told (reads.children_call t i (length room)) (reads.children_room t i room)
+      → listing_told (reads.children_call t i (length room)) (reads.children_room t i room)
       ≡ answer_if (call.refusal p (call.read (call.children_of i room))) (listed (map (id_of p) (children i.0 p.links)))
   unfolding call.refusal
   children_told_lem i room =
       let v = children_verdict t i (length room) in
-      children_is v (children_of t i.0) room
+      listing_is v (children_of t i.0) room
       ∙ answer_with v (call.refusal p (call.read (call.children_of i room))) (listed (children_of t i.0)) (listed (map (id_of p) (children i.0 p.links)))
       (children_reading_refused t p (meets_after calls).known i room) (λ e. ap listed (children_after i.0 (node_there p i (room_for_ids (length room) else 8 then accept) e)))
 
   module _ (i : NodeId) where
-    pub parent_told : Answered calls (call.parent_of i) → reads.parent_call t i ≡ reads.link_of (first_of p (above i.0 p.links))
-    unfolding reads.node_if call.refusal
+    pub parent_told : Answered calls (call.parent_of i) → reads.parent_call t i ≡ Ok (first_of p (above i.0 p.links))
+    unfolding call.refusal
     parent_told h = rw (accepted calls (call.parent_of i) h, parent_after i.0 (node_there p i accept h))
 
-    pub next_told : Answered calls (call.next_depth_first i) → reads.next_call t i ≡ reads.link_of (node_on p (next 256 p.links i.0))
-    unfolding reads.node_if call.refusal
+    pub next_told : Answered calls (call.next_depth_first i) → reads.next_call t i ≡ Ok (node_on p (next 256 p.links i.0))
+    unfolding call.refusal
     next_told h = rw (accepted calls (call.next_depth_first i) h, next_after i.0 (node_there p i accept h))
 
-    pub prev_told : Answered calls (call.prev_depth_first i) → reads.prev_call t i ≡ reads.link_of (node_on p (prev 256 p.links i.0))
-    unfolding reads.node_if call.refusal
+    pub prev_told : Answered calls (call.prev_depth_first i) → reads.prev_call t i ≡ Ok (node_on p (prev 256 p.links i.0))
+    unfolding call.refusal
     prev_told h = rw (accepted calls (call.prev_depth_first i) h, prev_after i.0 (node_there p i accept h))

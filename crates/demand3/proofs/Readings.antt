@@ -1,5 +1,6 @@
 -- What the readings answer after any list of calls from fresh, as their contracts say it: where the plan does not refuse a reading, the plan's
 -- liveness, need and local records, and world records as worked out afresh from the plan. Where it does, demand 3 has the number; of links, see Links.
+use Rattle.std.specs.Prelude.{Ok}
 use mathlib.Core.Path.{◌≡◌, refl, sym, ap, ◌∙◌}
 use mathlib.Core.Bool.{Bool, true, false, not, cond}
 use mathlib.Core.List.{List}
@@ -12,18 +13,10 @@ use Rattle.index_types.specs.declared.NodeId.{NodeId}
 use Rattle.tree_types.specs.declared.LocalNode.{LocalNode}
 use Rattle.tree_worlds.specs.declared.Placed.{Placed}
 use Rattle.link_forest.specs.Forest.{has}
-use Rattle.tree_state.specs.declared.Verdict.TheVariants as is
 use Rattle.tree_state.specs.declared.Tree.{Tree}
 use Rattle.tree_state.specs.Tree as tree
 use Rattle.tree_steps.specs.Setters.{held}
-use Rattle.tree_readings.specs.declared.answers.AnswerBool.TheVariants as bool
-use Rattle.tree_readings.specs.declared.answers.AnswerTransform.TheVariants as transform
-use Rattle.tree_readings.specs.declared.answers.AnswerClip.TheVariants as clip
-use Rattle.tree_readings.specs.declared.answers.AnswerRect.TheVariants as rect
-use Rattle.tree_readings.specs.declared.answers.AnswerInsets.TheVariants as insets
-use Rattle.tree_readings.specs.declared.answers.AnswerLevel.TheVariants as level
-use Rattle.tree_readings.specs.declared.answers.AnswerFlags.TheVariants as flags
-use Rattle.tree_readings.specs.answers.Answers as reads
+use Rattle.tree_readings.specs.Answers as reads
 use Rattle.agreement_calls.proofs.Tests.{live_same, needs_same, held_accepted}
 use Rattle.agreement.proofs.worlds.Committed.{calm_right}
 use Rattle.agreement.specs.Afresh.{Afresh}
@@ -65,22 +58,20 @@ module _ (calls : List Call) where
   p = plan_after
 
   -- ---- of the tree
-  whole : held t ≡ is.Accepted
+  whole : held t ≡ Ok tt
   whole = held_accepted t p (meets_after calls).known
 
-  pub alive : (i : NodeId) → reads.is_alive_call t i ≡ bool.Value (plan.live p i)
-  unfolding reads.bool_if
+  pub alive : (i : NodeId) → reads.is_alive_call t i ≡ Ok (plan.live p i)
   alive i = rw (whole, live_same t p (meets_after calls).known i)
 
-  pub need : reads.needs_commit_call t ≡ bool.Value (plan.needs_commit p)
-  unfolding reads.bool_if
+  pub need : reads.needs_commit_call t ≡ Ok (plan.needs_commit p)
   need = rw (whole, needs_same t p (meets_after calls).known)
 
   -- ---- of a node, where the plan does not refuse the reading
   abbrev pub Answered : Reading → Type 0
   Answered r = call.refusal p (call.read r) ≡ 0
 
-  pub accepted : (r : Reading) → Answered r → reading_verdict t r ≡ is.Accepted
+  pub accepted : (r : Reading) → Answered r → reading_verdict t r ≡ Ok tt
   unfolding verdict
   accepted r h = zero_accepted (reading_verdict t r) (refused_same t p (meets_after calls).known (call.read r) ∙ h)
 
@@ -91,28 +82,28 @@ module _ (calls : List Call) where
     abbrev stored : LocalNode
     stored = p.local i.0
 
-    pub local_transform : Answered (call.local_transform i) → reads.local_transform_call t i ≡ transform.Value stored.local_transform
-    unfolding reads.transform_if call.refusal
+    pub local_transform : Answered (call.local_transform i) → reads.local_transform_call t i ≡ Ok stored.local_transform
+    unfolding call.refusal
     local_transform h = rw (accepted (call.local_transform i) h, local i.0 (node_there p i accept h))
 
-    pub local_clip : Answered (call.local_clip i) → reads.local_clip_call t i ≡ clip.Value stored.local_clip
-    unfolding reads.clip_if call.refusal
+    pub local_clip : Answered (call.local_clip i) → reads.local_clip_call t i ≡ Ok stored.local_clip
+    unfolding call.refusal
     local_clip h = rw (accepted (call.local_clip i) h, local i.0 (node_there p i accept h))
 
-    pub local_bounds : Answered (call.local_bounds i) → reads.local_bounds_call t i ≡ rect.Value stored.local_bounds
-    unfolding reads.rect_if call.refusal
+    pub local_bounds : Answered (call.local_bounds i) → reads.local_bounds_call t i ≡ Ok stored.local_bounds
+    unfolding call.refusal
     local_bounds h = rw (accepted (call.local_bounds i) h, local i.0 (node_there p i accept h))
 
-    pub hit_slop : Answered (call.hit_slop i) → reads.hit_slop_call t i ≡ insets.Value stored.hit_slop
-    unfolding reads.insets_if call.refusal
+    pub hit_slop : Answered (call.hit_slop i) → reads.hit_slop_call t i ≡ Ok stored.hit_slop
+    unfolding call.refusal
     hit_slop h = rw (accepted (call.hit_slop i) h, local i.0 (node_there p i accept h))
 
-    pub z_index : Answered (call.z_index i) → reads.z_index_call t i ≡ level.Value stored.z_index
-    unfolding reads.level_if call.refusal
+    pub z_index : Answered (call.z_index i) → reads.z_index_call t i ≡ Ok stored.z_index
+    unfolding call.refusal
     z_index h = rw (accepted (call.z_index i) h, local i.0 (node_there p i accept h))
 
-    pub flags_of : Answered (call.flags i) → reads.flags_call t i ≡ flags.Value stored.flags
-    unfolding reads.flags_if call.refusal
+    pub flags_of : Answered (call.flags i) → reads.flags_call t i ≡ Ok stored.flags
+    unfolding call.refusal
     flags_of h = rw (accepted (call.flags i) h, local i.0 (node_there p i accept h))
 
     -- ---- of a node's world record
@@ -122,14 +113,14 @@ module _ (calls : List Call) where
     world_there : lowest (call.of_world p i) ≡ 0 → has i.0 p.links ≡ true
     world_there h = node_there p i (not (plan.needs_commit p) else 7 then accept) h
 
-    pub world_transform : Answered (call.world_transform i) → reads.world_transform_call t i ≡ transform.Value (world_place p i.0).transform
-    unfolding reads.transform_if call.refusal
-    world_transform h = rw (accepted (call.world_transform i) h) (ap (λ (w : Placed). transform.Value w.transform) ((right h).place i.0 (world_there h)))
+    pub world_transform : Answered (call.world_transform i) → reads.world_transform_call t i ≡ Ok (world_place p i.0).transform
+    unfolding call.refusal
+    world_transform h = rw (accepted (call.world_transform i) h) (ap (λ (w : Placed). Ok w.transform) ((right h).place i.0 (world_there h)))
 
-    pub world_bounds_lem : Answered (call.world_bounds i) → reads.world_bounds_call t i ≡ rect.Value (world_bounds p i.0)
-    unfolding reads.rect_if call.refusal
+    pub world_bounds_lem : Answered (call.world_bounds i) → reads.world_bounds_call t i ≡ Ok (world_bounds p i.0)
+    unfolding call.refusal
     world_bounds_lem h = rw (accepted (call.world_bounds i) h, ((right h).boxes i.0 (world_there h)).bounds)
 
-    pub world_hit_bounds_lem : Answered (call.world_hit_bounds i) → reads.world_hit_bounds_call t i ≡ rect.Value (world_hit_bounds p i.0)
-    unfolding reads.rect_if call.refusal
+    pub world_hit_bounds_lem : Answered (call.world_hit_bounds i) → reads.world_hit_bounds_call t i ≡ Ok (world_hit_bounds p i.0)
+    unfolding call.refusal
     world_hit_bounds_lem h = rw (accepted (call.world_hit_bounds i) h, ((right h).boxes i.0 (world_there h)).hit_bounds)

@@ -1,5 +1,6 @@
 -- Refusal 1 of every call, both ways, on every tree, sound or not: the call's number is 1 if and only if document 01's "Sound tree" fails. `Sized`
 -- says that the tables have the type's lengths, and nothing else.
+use Rattle.std.specs.Prelude.{Ok, Err}
 use mathlib.Core.Path.{◌≡◌, refl, sym, ap, ◌∙◌}
 use mathlib.Core.Bool.{Bool, true, false}
 use Prim.Native.Nat.{ℕ}
@@ -10,9 +11,7 @@ use Rattle.index_types.specs.declared.NodeId.{NodeId}
 use Rattle.tree_state.specs.declared.Tree.{Tree}
 use Rattle.tree_state.specs.declared.Refusal.{Refusal}
 use Rattle.tree_state.specs.declared.Refusal.TheVariants as no
-use Rattle.tree_state.specs.declared.Verdict.{Verdict}
-use Rattle.tree_state.specs.declared.Verdict.TheVariants as is
-use Rattle.tree_state.specs.Tree.{number_of, number_in, checked, checked_next}
+use Rattle.tree_state.specs.Tree.{number_of, number_in, checked, Verdict}
 use Rattle.tree_state.specs.Sound.{SoundTree, sound_tree}
 use Rattle.tree_sound.specs.Parts.{Sized}
 use Rattle.tree_sound.proofs.Exact.{decides}
@@ -31,17 +30,17 @@ abbrev Other : Refusal → Type 0
 Other r = number_of r ≡ 1 → ⊥
 
 -- the first test is of soundness
-first : {P : Type 0} (s : Bool) → Tells s P → Only P (number_in (checked is.Accepted s no.Unsound))
-unfolding checked checked_next number_in number_of
+first : {P : Type 0} (s : Bool) → Tells s P → Only P (number_in (checked (Ok tt) s no.Unsound))
+unfolding number_in number_of
 first true T = ((λ e p. omega arith), (λ n. absurd (n (T.0 refl))))
 first false T = ((λ e p. contra (T.1 p) refl), (λ n. refl))
 
 -- a test behind it gives another number
 next : {P : Type 0} (v : Verdict) (b : Bool) (r : Refusal) → Other r → Only P (number_in v) → Only P (number_in (checked v b r))
-unfolding checked checked_next number_in
-next is.Accepted true r o w = w
-next is.Accepted false r o w = ((λ e p. o e), (λ n. let z = w.1 n in absurd (omega arith)))
-next (is.Refused q) b r o w = w
+unfolding number_in
+next (Ok tt) true r o w = w
+next (Ok tt) false r o w = ((λ e p. o e), (λ n. let z = w.1 n in absurd (omega arith)))
+next (Err q) b r o w = w
 
 module _ (t : Tree) (s : Sized t) where
   abbrev One : Verdict → Type 0

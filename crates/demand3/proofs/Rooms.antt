@@ -1,6 +1,7 @@
 -- Lent room after a call that follows any list of calls from fresh: a call that the plan refuses leaves it as it was; a commit that it accepts
 -- leaves the damage there, as its answer counts it; behind the ids of an accepted tap, listing or `children_of` it is as it was, and it is as long.
 -- (Which ids stand in front demand 3 has, and Links of children.)
+use Rattle.std.specs.Prelude.{Ok, Err}
 use mathlib.Core.Path.{◌≡◌, refl, sym, ap, ◌∙◌}
 use mathlib.Core.Bool.{Bool, true, false, not}
 use mathlib.Core.List.{List, [], ◌∷◌, ◌++◌, reverse, map}
@@ -24,21 +25,18 @@ use Rattle.tree_types.specs.Local.{rect_to_aabb}
 use Rattle.tree_state.specs.declared.Tree.{Tree}
 use Rattle.tree_state.specs.declared.Refusal.{Refusal}
 use Rattle.tree_state.specs.declared.Refusal.TheVariants as no
-use Rattle.tree_state.specs.declared.Verdict.{Verdict}
-use Rattle.tree_state.specs.declared.Verdict.TheVariants as is
-use Rattle.tree_state.specs.Tree.{number_in, position_of, id_at, needs_commit}
+use Rattle.tree_state.specs.Tree.{number_in, position_of, id_at, needs_commit, Verdict}
 use Rattle.tree_steps.specs.Commit.{ancestors, commit_verdict, commit_tree}
 use Rattle.tree_steps.specs.Requests.{request_verdict, numbers_of, ids_in_front, room_if, rect_nodes, point_nodes, Best, nobody, best, hit_node, path_to, path_of}
 use Rattle.tree_steps.specs.Readings.{children_of, children_verdict}
 use Rattle.tree_steps.specs.Setters.{of_node}
-use Rattle.tree_laws.specs.Whole.{Whole}
-use Rattle.tree_laws.proofs.Whole.{sized}
-use Rattle.tree_verdicts.proofs.nodes.Nodes.{Held}
+use Rattle.tree_state.specs.Whole.{Whole}
+use Rattle.tree_verdicts.specs.Held.{Held}
 use Rattle.tree_verdicts.proofs.requests.Accepted.{Accepted, accepted}
-use Rattle.tree_listings.proofs.entries.Entries.{carried, id_of, takes, taken_few, rect_listed, point_listed}
+use Rattle.tree_listings.proofs.entries.Entries.{id_of, takes, taken_few, rect_listed, point_listed}
 use Rattle.tree_taps.proofs.paths.Climb.{path_length}
 use Rattle.tree_invariant.proofs.calls.Accepted.{checked_both}
-use Rattle.tree_readings.specs.answers.Answers.{children_room}
+use Rattle.tree_readings.specs.Answers.{children_room}
 use Rattle.tree_commit.specs.Commit.{commit_call, commit_room}
 use Rattle.tree_listings.specs.Listings.{intersect_room, containing_room}
 use Rattle.tree_taps.specs.Taps.{tap_room}
@@ -91,7 +89,7 @@ path_few t w (best x) =
 
 rect_few : (t : Tree) → Held t → needs_commit t ≡ false → (asked : NodeFlags) (r : Rect) → length (rect_nodes t asked r) ≤ 256
 rect_few t H q asked r =
-    rw (rect_listed t asked r, length-map (slots 512 (takes t asked (rect_to_aabb r))) (id_of t)) (taken_few t asked (rect_to_aabb r) (carried t H q) 512 (omega arith))
+    rw (rect_listed t asked r, length-map (slots 512 (takes t asked (rect_to_aabb r))) (id_of t)) (taken_few t (rect_to_aabb r) asked (record { held = H; no_need = q }) 512 (omega arith))
 
 point_few : (t : Tree) → Held t → needs_commit t ≡ false → (asked : NodeFlags) (pt : Point) → length (point_nodes t asked pt) ≤ 256
 point_few t H q asked pt = rw (point_listed t asked pt) (rect_few t H q asked _)
@@ -124,7 +122,7 @@ children_few t w x =
     below_few (id_at t) (get_or t.links.depth i 0 + 1) (e - i) i t.links.order (between i e t.links.depth) w.links.order
 
 -- ids in front of a room that holds 256
-ids_behind : (v : Verdict) (l : List NodeId) (room : List ℕ) → v ≡ is.Accepted → length l ≤ 256 → 512 ≤ length room → Behind l room (room_if v l room)
+ids_behind : (v : Verdict) (l : List NodeId) (room : List ℕ) → v ≡ Ok tt → length l ≤ 256 → 512 ≤ length room → Behind l room (room_if v l room)
 unfolding room_if ids_in_front
 ids_behind v l room e few long = rw e (record { few = few; behind = behind; as_long = as_long })
   where
@@ -144,13 +142,13 @@ module _ (calls : List Call) where
   number_same : (c : Call) → number_in (verdict t c) ≡ refusal p c
   number_same c = refused_same t p (meets_after calls).known c
 
-  refused_by : (c : Call) → (refusal p c ≡ 0 → ⊥) → (r : Refusal) × (verdict t c ≡ is.Refused r)
+  refused_by : (c : Call) → (refusal p c ≡ 0 → ⊥) → (r : Refusal) × (verdict t c ≡ Err r)
   unfolding number_in
   refused_by c h = go (verdict t c) refl
     where
-      go : (v : Verdict) → verdict t c ≡ v → (r : Refusal) × (verdict t c ≡ is.Refused r)
-      go is.Accepted e = absurd (h (sym (number_same c) ∙ ap number_in e))
-      go (is.Refused r) e = (r, e)
+      go : (v : Verdict) → verdict t c ≡ v → (r : Refusal) × (verdict t c ≡ Err r)
+      go (Ok tt) e = absurd (h (sym (number_same c) ∙ ap number_in e))
+      go (Err r) e = (r, e)
 
   -- ---- rectangles
   pub commit_left : (room : List Float) → (refusal p (call.commit room) ≡ 0 → ⊥) → commit_room t room ≡ room
@@ -199,12 +197,12 @@ module _ (calls : List Call) where
         ids_left q.0 (request_verdict t asked (length room)) (point_nodes t asked pt) room q.1
 
     -- an accepted one's room is as it was behind the ids
-    yes_to : (q : Request) → refusal p (call.request q asked room) ≡ 0 → request_verdict t asked (length room) ≡ is.Accepted
+    yes_to : (q : Request) → refusal p (call.request q asked room) ≡ 0 → request_verdict t asked (length room) ≡ Ok tt
     unfolding verdict
     yes_to q h = zero_accepted (request_verdict t asked (length room)) (number_same (call.request q asked room) ∙ h)
 
-    given : request_verdict t asked (length room) ≡ is.Accepted → Accepted t (length room)
-    given e = accepted t (sized t (meets_after calls).known.whole) asked (length room) e
+    given : request_verdict t asked (length room) ≡ Ok tt → Accepted t (length room)
+    given e = accepted t (meets_after calls).known.whole asked (length room) e
 
     pub tap_behind : (pt : Point) → refusal p (call.request (call.hit_test_point pt) asked room) ≡ 0 → Behind (path_of t (hit_node t asked pt)) room (tap_room t asked pt room)
     tap_behind pt h =
@@ -215,10 +213,10 @@ module _ (calls : List Call) where
     intersect_behind r h =
         let e = yes_to (call.intersect_rect r) h in
         let a = given e in
-        ids_behind (request_verdict t asked (length room)) (rect_nodes t asked r) room e (rect_few t a.whole a.no_need asked r) a.long
+        ids_behind (request_verdict t asked (length room)) (rect_nodes t asked r) room e (rect_few t a.held a.no_need asked r) a.long
 
     pub containing_behind : (pt : Point) → refusal p (call.request (call.containing_point pt) asked room) ≡ 0 → Behind (point_nodes t asked pt) room (containing_room t asked pt room)
     containing_behind pt h =
         let e = yes_to (call.containing_point pt) h in
         let a = given e in
-        ids_behind (request_verdict t asked (length room)) (point_nodes t asked pt) room e (point_few t a.whole a.no_need asked pt) a.long
+        ids_behind (request_verdict t asked (length room)) (point_nodes t asked pt) room e (point_few t a.held a.no_need asked pt) a.long

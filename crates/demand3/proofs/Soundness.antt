@@ -1,5 +1,6 @@
 -- Soundness over any list of calls: every call keeps it, whatever the tree was made of; from fresh no call is refused by 1; and what a commit
 -- leaves.
+use Rattle.std.specs.Prelude.{Ok}
 use mathlib.Core.Path.{◌≡◌, sym, ap, ◌∙◌}
 use mathlib.Core.Bool.{true, false}
 use mathlib.Core.List.{List, [], ◌∷◌}
@@ -11,13 +12,12 @@ use lib.ListN.{length, get_or, take}
 use Rattle.index_entries.proofs.Finding.{slot_unused}
 use Rattle.index_state.specs.Index as index
 use Rattle.tree_state.specs.declared.Tree.{Tree}
-use Rattle.tree_state.specs.declared.Verdict.TheVariants as is
 use Rattle.tree_state.specs.Tree.{fresh_tree, committed_at}
 use Rattle.tree_state.specs.Sound.{SoundTree, sound_tree}
 use Rattle.tree_sound.proofs.Exact.{decides}
 use Rattle.tree_steps.specs.Commit.{visits_of, rework_all, begun, commit_tree}
 use Rattle.tree_laws.proofs.Whole.{sized, whole_fresh}
-use Rattle.tree_laws.specs.Whole.{Whole}
+use Rattle.tree_state.specs.Whole.{Whole}
 use Rattle.tree_rework.specs.preconditions.Fits.{slot_at}
 use Rattle.tree_invariant.proofs.calls.Setters as setters
 use Rattle.tree_invariant.proofs.calls.Insert.{keep_insert}
@@ -41,7 +41,7 @@ use Rattle.demand3.proofs.Theorem.{Meets, run_meets, meets_fresh, outcome_same}
 
 -- ---- every call keeps soundness, of every sound tree
 
-accepted_keeps : (t : Tree) → Whole t → SoundTree t → (c : Call) → verdict t c ≡ is.Accepted → Keeps (accepted t c)
+accepted_keeps : (t : Tree) → Whole t → SoundTree t → (c : Call) → verdict t c ≡ Ok tt → Keeps (accepted t c)
 unfolding verdict accepted
 accepted_keeps t w S (call.insert o v) e = keep_insert t o v w S e
 accepted_keeps t w S (call.remove i) e = keep_remove t i w S e

@@ -1,6 +1,7 @@
 -- Demand 3: over every list of calls from fresh, each call is refused exactly where the plan refuses it and tells the same, and every request after
 -- them is refused where the plan refuses it, and else answers what the definition gives on the plan, redacted. The statement is `Demand3` (plan,
 -- specs/Demand.antt); step, outcome and answer are those of tree_run (specs/Run.antt), read off what the contracts of the public functions cite.
+use Rattle.std.specs.Prelude.{Ok, Err, Option}
 use mathlib.Core.Path.{◌≡◌, refl, ap, ap₂, ◌∙◌}
 use mathlib.Core.Bool.{Bool, true, false}
 use mathlib.Core.List.{List, [], ◌∷◌}
@@ -13,15 +14,12 @@ use Rattle.geometry_clips.specs.Clips.{constructed, clip_eq}
 use Rattle.index_types.specs.declared.NodeId.{NodeId}
 use Rattle.tree_types.specs.declared.NodeFlags.{NodeFlags}
 use Rattle.tree_types.specs.declared.LocalNode.{LocalNode}
-use Rattle.tree_types.specs.declared.OptionNodeId.{OptionNodeId}
 use Rattle.link_forest.specs.Forest.{has}
 use Rattle.link_forest.proofs.Counting.{has_parts}
 use Rattle.tree_state.specs.declared.Tree.{Tree}
 use Rattle.tree_state.specs.declared.Refusal.{Refusal}
 use Rattle.tree_state.specs.declared.Refusal.TheVariants as no
-use Rattle.tree_state.specs.declared.Verdict.{Verdict}
-use Rattle.tree_state.specs.declared.Verdict.TheVariants as is
-use Rattle.tree_state.specs.Tree.{fresh_tree, number_of, number_in, position_of}
+use Rattle.tree_state.specs.Tree.{fresh_tree, number_of, number_in, position_of, Verdict}
 use Rattle.tree_steps.specs.Setters as set
 use Rattle.tree_steps.specs.Structure as structure
 use Rattle.tree_steps.specs.Requests as request
@@ -99,12 +97,12 @@ pub removed_was : (p : Plan) (x : ℕ) → has x p.links ≡ true → (y : ℕ) 
 unfolding plan.removed
 removed_was p x h y e = has_parts y x p.links h ∙ rw e
 
-pub moved_was : (t : Tree) (p : Plan) (K : Known t p) (i : NodeId) (o : OptionNodeId) → structure.reparent_verdict t i o ≡ is.Accepted
+pub moved_was : (t : Tree) (p : Plan) (K : Known t p) (i : NodeId) (o : Option NodeId) → structure.reparent_verdict t i o ≡ Ok tt
     → (y : ℕ) → has y (plan.moved p i.0 o).links ≡ true → has y p.links ≡ true
 unfolding plan.moved
 moved_was t p K i o e y h = reparent.was t p K i o e y h
 
-pub inserted_was : (t : Tree) (p : Plan) (K : Known t p) (o : OptionNodeId) (v : LocalNode) → structure.insert_verdict t o v ≡ is.Accepted
+pub inserted_was : (t : Tree) (p : Plan) (K : Known t p) (o : Option NodeId) (v : LocalNode) → structure.insert_verdict t o v ≡ Ok tt
     → (y : ℕ) → has y (call.accepted p (call.insert o v)).links ≡ true → (y ≡ structure.slot_of t.slots → ⊥) → has y p.links ≡ true
 unfolding call.accepted plan.inserted
 inserted_was t p K o v e y h n = insert.was t p K o v e y n (rw (refused.slot_same t p K) h)
@@ -114,7 +112,7 @@ entered_set : (t : Tree) (b : Bool) (p : Plan) (x : ℕ) (v : LocalNode) (m : pl
 entered_set t true p x v m E = E
 entered_set t false p x v m E = E
 
-accepted_meets : (t : Tree) (p : Plan) → Meets t p → (c : Call) → verdict t c ≡ is.Accepted → Meets (accepted t c) (call.accepted p c)
+accepted_meets : (t : Tree) (p : Plan) → Meets t p → (c : Call) → verdict t c ≡ Ok tt → Meets (accepted t c) (call.accepted p c)
 unfolding verdict accepted call.accepted
 accepted_meets t p M (call.insert o v) e =
     record {
@@ -187,19 +185,19 @@ some_number no.NeedsCommit e = omega arith
 some_number no.ShortRoom e = omega arith
 some_number no.Full e = omega arith
 
-pub zero_accepted : (v : Verdict) → number_in v ≡ 0 → v ≡ is.Accepted
+pub zero_accepted : (v : Verdict) → number_in v ≡ 0 → v ≡ Ok tt
 unfolding number_in
-zero_accepted is.Accepted e = refl
-zero_accepted (is.Refused r) e = absurd (some_number r e)
+zero_accepted (Ok tt) e = refl
+zero_accepted (Err r) e = absurd (some_number r e)
 
 -- accepted on the tree where the plan refuses nothing, and refused by the same number
-step_with : (v : Verdict) (n : ℕ) (t : Tree) (p : Plan) (c : Call) → number_in v ≡ n → Meets t p → (v ≡ is.Accepted → Meets (accepted t c) (call.accepted p c))
+step_with : (v : Verdict) (n : ℕ) (t : Tree) (p : Plan) (c : Call) → number_in v ≡ n → Meets t p → (v ≡ Ok tt → Meets (accepted t c) (call.accepted p c))
     → Meets (set.tree_if v (accepted t c) t) (call.step_if n p c)
 unfolding number_in
-step_with is.Accepted zero t p c e M done = done refl
-step_with is.Accepted (suc n) t p c e M done = absurd (omega arith)
-step_with (is.Refused r) zero t p c e M done = absurd (some_number r e)
-step_with (is.Refused r) (suc n) t p c e M done = M
+step_with (Ok tt) zero t p c e M done = done refl
+step_with (Ok tt) (suc n) t p c e M done = absurd (omega arith)
+step_with (Err r) zero t p c e M done = absurd (some_number r e)
+step_with (Err r) (suc n) t p c e M done = M
 
 pub step_meets : (t : Tree) (p : Plan) → Meets t p → (c : Call) → Meets (tree.step t c) (call.step p c)
 unfolding call.step
@@ -222,10 +220,10 @@ told_same t p K (call.request q asked room) = refl
 outcome_with : (v : Verdict) (n : ℕ) (t : Tree) (p : Plan) (c : Call) → number_in v ≡ n → told t c ≡ call.told p c
     → by.outcome_if v (told t c) ≡ record { refused = n; told = call.told_if n p c }
 unfolding number_in
-outcome_with is.Accepted zero t p c e h = rw h
-outcome_with is.Accepted (suc n) t p c e h = absurd (omega arith)
-outcome_with (is.Refused r) zero t p c e h = absurd (some_number r e)
-outcome_with (is.Refused r) (suc n) t p c e h = rw e
+outcome_with (Ok tt) zero t p c e h = rw h
+outcome_with (Ok tt) (suc n) t p c e h = absurd (omega arith)
+outcome_with (Err r) zero t p c e h = absurd (some_number r e)
+outcome_with (Err r) (suc n) t p c e h = rw e
 
 pub outcome_same : (t : Tree) (p : Plan) → Known t p → (c : Call) → tree.outcome t c ≡ call.outcome p c
 unfolding call.outcome
@@ -236,10 +234,10 @@ outcome_same t p K c = outcome_is t c ∙ outcome_with (verdict t c) (call.refus
 -- refused by the same number, or the same found
 pub answer_with : (v : Verdict) (n : ℕ) (x y : Answer) → number_in v ≡ n → (n ≡ 0 → x ≡ y) → by.answer_if v x ≡ demand.answer_if n y
 unfolding number_in
-answer_with is.Accepted zero x y e same = same refl
-answer_with is.Accepted (suc n) x y e same = absurd (omega arith)
-answer_with (is.Refused r) zero x y e same = absurd (some_number r e)
-answer_with (is.Refused r) (suc n) x y e same = ap demand.refused e
+answer_with (Ok tt) zero x y e same = same refl
+answer_with (Ok tt) (suc n) x y e same = absurd (omega arith)
+answer_with (Err r) zero x y e same = absurd (some_number r e)
+answer_with (Err r) (suc n) x y e same = ap demand.refused e
 
 request_same : (t : Tree) (p : Plan) → Known t p → (asked : NodeFlags) (room : List ℕ) (q : Request) → tree.answer t asked room q ≡ demand.answer p asked room q
 unfolding demand.answer call.refusal

@@ -4,7 +4,7 @@ use Rattle.index_types.specs.declared.NodeId.{NodeId}
 use Rattle.tree_state.specs.declared.Tree.{Tree}
 use Rattle.tree_state.specs.Tree.{fresh_tree}
 use Rattle.tree_state.specs.Sound.{SoundTree}
-use Rattle.tree_laws.specs.Whole.{Whole}
+use Rattle.tree_state.specs.Whole.{Whole}
 use Rattle.tree_run.specs.Run.{step}
 use Rattle.plan.specs.Calls.{Call}
 use Rattle.plan.specs.Demand.{run}

@@ -1,7 +1,7 @@
 -- The damage of a commit, over every list of calls from fresh: which rectangles its answer counts and its room begins with. They are worked out from
 -- the calls alone: beside the plan (crate plan) stands only what world boxes were shown last and which of them have gone since. Which nodes a commit
 -- visits, and in which order, is the plan's `visits`; a node's world box worked out afresh from the local records is its `world_bounds`.
-use Rattle.std.specs.Prelude.{ℕ, zero, suc, ◌*◌, ◌≤◌, ◌<◌, ◌≡◌, true, List, [], ◌++◌, Float, length, drop}
+use Rattle.std.specs.Prelude.{ℕ, zero, suc, ◌*◌, ◌≤◌, ◌<◌, ◌≡◌, true, List, [], ◌++◌, Float, length, drop, Ok}
 use Rattle.geometry.specs.declared.rect.Rect.{Rect}
 use Rattle.geometry.specs.Rectangle.{has_area}
 use Rattle.tree_types.specs.Local.{empty_rect}
@@ -10,7 +10,6 @@ use Rattle.link_forest.specs.Forest.{post, part}
 use Rattle.tree_state.specs.declared.Tree.{Tree}
 use Rattle.tree_state.specs.Tree.{fresh_tree}
 use Rattle.tree_steps.specs.Commit.{if_area, damage_of, rects_of}
-use Rattle.tree_commit.specs.declared.Committed.TheVariants as is
 use Rattle.tree_commit.specs.Commit.{commit_call, commit_room}
 use Rattle.tree_damage.specs.Damage as damage
 use Rattle.tree_run.specs.Run as tree
@@ -70,7 +69,7 @@ rects s = s.shown.gone ++ joined (λ x. damage_of (s.shown.box x) (world_bounds 
 -- a commit of this tree, lent this room, has these rectangles as its damage
 pub record Damage (t : Tree) (room : List Float) (rs : List Rect) : Type 0 where
   -- its answer counts them, and 512 are the most
-  pub counted : (commit_call t (length room)).answer ≡ is.Damage (length rs)
+  pub counted : (commit_call t (length room)).answer ≡ Ok (length rs)
   pub few : length rs ≤ 512
   -- they stand in front of the room, in order, four numbers each
   pub in_front : rects_of (commit_room t room) (length rs) ≡ rs
@@ -80,7 +79,7 @@ pub record Damage (t : Tree) (room : List Float) (rs : List Rect) : Type 0 where
   -- each of them has area: its width and its height exceed 0.0
   pub area : (i : ℕ) → i < length rs → has_area (rect_at (commit_room t room) i) ≡ true
   -- `union_rect`, handed that room and that count, joins them one after the other
-  pub union : damage.union_rect (commit_room t room) (length rs) ≡ damage.joined rs
+  pub union : damage.union_rect (commit_room t room) (length rs) ≡ Ok (damage.joined rs)
 
 -- after every list of calls, of every commit that is accepted
 abbrev pub DamageTold : Type 0

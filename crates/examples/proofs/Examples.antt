@@ -1,4 +1,5 @@
 -- Document 01's examples P1 to P12, proved: rows about taps, ids and refusals go by demand 3, so the plan computes them.
+use Rattle.std.specs.Prelude.{Some, Ok, None}
 use mathlib.Core.Path.{◌≡◌, refl, sym, ap, ◌∙◌}
 use mathlib.Core.Bool.{false}
 use mathlib.Core.List.{List, [], ◌∷◌}
@@ -11,14 +12,11 @@ use Rattle.geometry.specs.declared.rect.Rect.{Rect}
 use Rattle.geometry.specs.Rectangle.{rect}
 use Rattle.tree_types.specs.declared.NodeFlags.{NodeFlags}
 use Rattle.index_types.specs.declared.NodeId.{NodeId}
-use Rattle.tree_types.specs.declared.OptionNodeId.TheVariants as node
 use Rattle.tree_types.specs.Local.{flags}
 use Rattle.index_rows.proofs.Rows as entries
-use Rattle.tree_state.specs.Tree.{fresh_tree, checked, checked_next}
-use Rattle.tree_commit.specs.declared.Committed.TheVariants as commits
+use Rattle.tree_state.specs.Tree.{fresh_tree}
 use Rattle.tree_commit.specs.Commit.{after_work, commit_call}
-use Rattle.tree_readings.specs.declared.answers.AnswerNode.TheVariants as link
-use Rattle.tree_readings.specs.answers.Answers as reads
+use Rattle.tree_readings.specs.Answers as reads
 use Rattle.tree_run.specs.Run as tree
 use Rattle.tree_rows.proofs.Rows.{after}
 use Rattle.tree_rows.proofs.damage.Damage as rows
@@ -61,11 +59,11 @@ ids_3 =
     by_plan (root ∷ child a ∷ call.remove a ∷ root ∷ root ∷ [])
     (given (id 0 1) ∷ given (id 1 1) ∷ told 0 ∷ given (id 0 2) ∷ given (id 1 2) ∷ []) refl
 
-refused_4 : answers (root ∷ child a ∷ call.reparent a (node.Some b) ∷ call.reparent a (node.Some a) ∷ [])
+refused_4 : answers (root ∷ child a ∷ call.reparent a (Some b) ∷ call.reparent a (Some a) ∷ [])
     ≡ given a ∷ given b ∷ told 4 ∷ told 4 ∷ []
 unfolding cases.computed
 refused_4 =
-    by_plan (root ∷ child a ∷ call.reparent a (node.Some b) ∷ call.reparent a (node.Some a) ∷ [])
+    by_plan (root ∷ child a ∷ call.reparent a (Some b) ∷ call.reparent a (Some a) ∷ [])
     (given a ∷ given b ∷ told 4 ∷ told 4 ∷ []) refl
 
 sheet_6 : (world_bounds (run step empty (calls_in (read_sheet example_sheet))) 1 ≡ rect (num 80) zero (num 100) (num 40))
@@ -118,16 +116,16 @@ before_8 : tap_at (root ∷ flat_child ∷ settle ∷ []) (point 5 5) ≡ tapped
 unfolding cases.computed
 before_8 = tap_by_plan (root ∷ flat_child ∷ settle ∷ []) (point 5 5) (tapped (hit a (a ∷ []))) refl
 
-no_damage_1 : (commit_call fresh_tree 2048).answer ≡ commits.Damage 0
-unfolding commit_call after_work checked checked_next
-no_damage_1 = rw (held_accepted fresh_tree empty known_fresh) (ap (λ (l : List Rect). commits.Damage (length l)) rows.p1)
+no_damage_1 : (commit_call fresh_tree 2048).answer ≡ Ok 0
+unfolding commit_call after_work
+no_damage_1 = rw (held_accepted fresh_tree empty known_fresh) (ap (λ (l : List Rect). Ok (length l)) rows.p1)
 
-children_5 : children_at (root ∷ child a ∷ child a ∷ call.reparent b (node.Some a) ∷ []) a ≡ listed (c ∷ b ∷ [])
+children_5 : children_at (root ∷ child a ∷ child a ∷ call.reparent b (Some a) ∷ []) a ≡ listed (c ∷ b ∷ [])
 unfolding after cases.computed
-children_5 = children_told_lem (root ∷ child a ∷ child a ∷ call.reparent b (node.Some a) ∷ []) a (words 512) ∙ refl
+children_5 = children_told_lem (root ∷ child a ∷ child a ∷ call.reparent b (Some a) ∷ []) a (words 512) ∙ refl
 
-next_10 : reads.next_call (after (root ∷ child a ∷ root ∷ [])) b ≡ link.None
-unfolding after cases.computed reads.node_if reads.link_of
+next_10 : reads.next_call (after (root ∷ child a ∷ root ∷ [])) b ≡ Ok None
+unfolding after cases.computed
 next_10 = rw (accepted (root ∷ child a ∷ root ∷ []) (call.next_depth_first b) refl, (rows.p10).0)
 
 tap_9 : tap_at (root ∷ root ∷ call.remove a ∷ root ∷ settle ∷ []) (point 5 5) ≡ tapped (hit (id 0 2) (id 0 2 ∷ []))

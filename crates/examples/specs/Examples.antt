@@ -1,6 +1,6 @@
 -- Document 01's examples P1 to P12, a row each, as one claim. Rows about taps, ids and refusals speak of the tree's own run from fresh;
 -- P6's world box and P8's first row speak of the plan, P11 and P12 of the index's definitions.
-use Rattle.std.specs.Prelude.{◌≡◌, true, false, List, [], ◌∷◌, ℕ, get_or}
+use Rattle.std.specs.Prelude.{◌≡◌, true, false, List, [], ◌∷◌, ℕ, get_or, None, Some, Ok}
 use Rattle.std.specs.Float.{binary64}
 use Rattle.std.specs.Float.Ieee.{round, eq}
 use Rattle.numbers.specs.Rounded.{zero}
@@ -9,17 +9,14 @@ use Rattle.geometry.specs.Rectangle.{rect}
 use Rattle.geometry.specs.declared.affine.Affine.{Affine}
 use Rattle.index_types.specs.declared.NodeId.{NodeId}
 use Rattle.tree_types.specs.declared.NodeFlags.{NodeFlags}
-use Rattle.tree_types.specs.declared.OptionNodeId.TheVariants as node
 use Rattle.tree_types.specs.Local.{flags, with_transform}
 use Rattle.index_state.specs.Index as index
 use Rattle.index_state.specs.Calls as list
 use Rattle.index_rows.proofs.Rows as entries
 use Rattle.tree_state.specs.Tree.{fresh_tree, position_of}
-use Rattle.tree_commit.specs.declared.Committed.TheVariants as commits
 use Rattle.tree_commit.specs.Commit.{commit_call}
-use Rattle.tree_readings.specs.declared.answers.AnswerNode.TheVariants as link
-use Rattle.tree_readings.specs.answers.Answers as reads
-use Rattle.tree_run.specs.Told.{children_told}
+use Rattle.tree_readings.specs.Answers as reads
+use Rattle.tree_run.specs.Told.{listing_told}
 use Rattle.tree_run.specs.Run as tree
 use Rattle.tree_rows.proofs.Rows.{after}
 use Rattle.plan.specs.Plan.{Plan, empty}
@@ -48,7 +45,7 @@ tap_at cs pt = tree.answer (after cs) (flags 3) (words 512) (call.hit_test_point
 
 -- a node's children, read back from the room
 abbrev pub children_at : List Call → NodeId → Answer
-children_at cs i = children_told (reads.children_call (after cs) i 512) (reads.children_room (after cs) i (words 512))
+children_at cs i = listing_told (reads.children_call (after cs) i 512) (reads.children_room (after cs) i (words 512))
 
 -- the id that an insert hands out
 abbrev pub given : NodeId → Outcome
@@ -62,11 +59,11 @@ abbrev pub flat : Affine
 flat = record { a = zero; b = zero; c = zero; d = zero; e = num 5; f = num 5 }
 
 abbrev pub flat_root : Call
-flat_root = call.insert node.None (with_transform flat ten)
+flat_root = call.insert None (with_transform flat ten)
 
 -- below the first node, and deeper
 abbrev pub flat_child : Call
-flat_child = call.insert (node.Some a) (with_transform flat ten)
+flat_child = call.insert (Some a) (with_transform flat ten)
 
 -- the calls of a sheet that is read
 abbrev pub calls_in : sheet.Read → List Call
@@ -87,7 +84,7 @@ pub data FlatNode (p : Plan) (x : ℕ) : Type 0 where
 
 pub record Examples : Type 0 where
   -- Fresh tree: commit gives no damage.
-  pub p1 : (commit_call fresh_tree 2048).answer ≡ commits.Damage 0
+  pub p1 : (commit_call fresh_tree 2048).answer ≡ Ok 0
   -- First insert: id (0, 1); committed depth 1.
   pub p2 : (answers (root ∷ settle ∷ []) ≡ given (id 0 1) ∷ told 0 ∷ [])
       × (get_or (after (root ∷ settle ∷ [])).links.depth (position_of (after (root ∷ settle ∷ [])) 0) 0 ≡ 1)
@@ -95,10 +92,10 @@ pub record Examples : Type 0 where
   pub p3 : answers (root ∷ child a ∷ call.remove a ∷ root ∷ root ∷ [])
       ≡ given (id 0 1) ∷ given (id 1 1) ∷ told 0 ∷ given (id 0 2) ∷ given (id 1 2) ∷ []
   -- A under its child, A under A: 4.
-  pub p4 : answers (root ∷ child a ∷ call.reparent a (node.Some b) ∷ call.reparent a (node.Some a) ∷ [])
+  pub p4 : answers (root ∷ child a ∷ call.reparent a (Some b) ∷ call.reparent a (Some a) ∷ [])
       ≡ given a ∷ given b ∷ told 4 ∷ told 4 ∷ []
   -- Children B, C; B reparented to the same parent: C, B.
-  pub p5 : children_at (root ∷ child a ∷ child a ∷ call.reparent b (node.Some a) ∷ []) a ≡ listed (c ∷ b ∷ [])
+  pub p5 : children_at (root ∷ child a ∷ child a ∷ call.reparent b (Some a) ∷ []) a ≡ listed (c ∷ b ∷ [])
   -- The sheet above: place 2 has world box 80, 0, 100, 40; and its answers.
   pub p6 : (world_bounds (run step empty (calls_in (read_sheet example_sheet))) 1 ≡ rect (num 80) zero (num 100) (num 40))
       × (output example_sheet ≡ bytes "4\n1 2 2\n2 2 2\n3 1 1\n4 0 0\n")
@@ -119,7 +116,7 @@ pub record Examples : Type 0 where
   -- Equal level and depth: (0, 2) beats (1, 1).
   pub p9 : tap_at (root ∷ root ∷ call.remove a ∷ root ∷ settle ∷ []) (point 5 5) ≡ tapped (hit (id 0 2) (id 0 2 ∷ []))
   -- After the last leaf of a root, `next_depth_first` gives none.
-  pub p10 : reads.next_call (after (root ∷ child a ∷ root ∷ [])) b ≡ link.None
+  pub p10 : reads.next_call (after (root ∷ child a ∷ root ∷ [])) b ≡ Ok None
   -- Index: committed entry removed, then updated, commit: it lives with the new box and no damage.
   pub p11 : let calls = entries.add 10 ∷ entries.settle ∷ list.remove entries.first ∷ list.update entries.first (entries.box 20) ∷ [] in
       (entries.found calls ≡ [] ∷ [] ∷ [] ∷ [] ∷ [])

@@ -2,8 +2,8 @@
 use mathlib.Core.Path.{◌≡◌}
 use mathlib.Core.Bool.{true, ◌&&◌}
 use lib.Ieee.Scale.{finite}
-use Rattle.numbers.proofs.Bools.{and_left, and_right}
-use Rattle.numbers.proofs.Order.{eq_refl, finite_number, eq_sym, four_refl}
+use Rattle.numbers.proofs.Bools.{and_left, and_right, four}
+use Rattle.numbers.proofs.Order.{eq_refl, finite_number, eq_sym}
 use Rattle.geometry.specs.declared.affine.Affine.{Affine}
 use Rattle.geometry.specs.Transform.{affine_eq, finite_affine}
 
@@ -12,9 +12,11 @@ unfolding affine_eq finite_affine
 affine_refl t f =
     let A = finite t.a && finite t.b && (finite t.c && finite t.d) in
     let E = finite t.e && finite t.f in
-    let e = eq_refl t.e (finite_number t.e (and_left (finite t.e) (finite t.f) (and_right A E f))) in
-    let g = eq_refl t.f (finite_number t.f (and_right (finite t.e) (finite t.f) (and_right A E f))) in
-    rw (four_refl t.a t.b t.c t.d (and_left A E f), e, g)
+    let F = four (finite t.a) (finite t.b) (finite t.c) (finite t.d) (and_left A E f) in
+    let e = and_left (finite t.e) (finite t.f) (and_right A E f) in
+    let g = and_right (finite t.e) (finite t.f) (and_right A E f) in
+    rw
+    (eq_refl t.a (finite_number t.a F.first), eq_refl t.b (finite_number t.b F.second), eq_refl t.c (finite_number t.c F.third), eq_refl t.d (finite_number t.d F.fourth), eq_refl t.e (finite_number t.e e), eq_refl t.f (finite_number t.f g))
 
 pub affine_sym : (s t : Affine) → affine_eq s t ≡ affine_eq t s
 unfolding affine_eq

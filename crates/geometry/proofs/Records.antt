@@ -4,7 +4,7 @@ use mathlib.Core.Path.{◌≡◌}
 use mathlib.Core.Bool.{true}
 use lib.Ieee.{lt, eq}
 use Rattle.numbers.specs.Rounded as const
-use Rattle.numbers.proofs.Bools.{and_left, and_right, Four, four}
+use Rattle.numbers.proofs.Bools.{and_left, and_right, Four, four_chained}
 use Rattle.numbers.proofs.Order.{lt_alike_right, le_alike, four_refl, four_sym, four_alike}
 use Rattle.numbers.proofs.Signs.{above_tells}
 use Rattle.geometry.specs.declared.point.Point.{Point}
@@ -31,7 +31,7 @@ module _ (r s : Rect) where
     -- each edge equals its counterpart
     pub rect_edges : Four (eq r.x0 s.x0) (eq r.y0 s.y0) (eq r.x1 s.x1) (eq r.y1 s.y1)
     unfolding rect_eq
-    rect_edges = four _ _ _ _ h
+    rect_edges = four_chained _ _ _ _ h
 
     pub contains_alike : (p : Point) → contains r p ≡ contains s p
     unfolding contains

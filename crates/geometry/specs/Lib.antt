@@ -2,3 +2,4 @@ pub mod bbox
 pub mod Rectangle
 pub mod Parts
 pub mod Transform
+pub mod Equality

@@ -1,4 +1,4 @@
--- Rectangles, and bounds plus insets (document 01, module 1). A rectangle has two low edges, x0 and y0, and two high edges, x1 and y1; nothing
+-- Rectangles, and bounds plus insets. A rectangle has two low edges, x0 and y0, and two high edges, x1 and y1; nothing
 -- keeps a low edge below its high edge.
 use Rattle.std.specs.Prelude.{Bool, ◌&&◌, Float}
 use Rattle.std.specs.Float.Ieee.{lt, le, eq}
@@ -55,7 +55,7 @@ plus_insets r i = grown (ordered r) i
 
 -- equality as numbers: −0 equals +0, a NaN equals nothing
 unfoldable pub rect_eq : Rect → Rect → Bool
-rect_eq r s = eq r.x0 s.x0 && eq r.y0 s.y0 && (eq r.x1 s.x1 && eq r.y1 s.y1)
+rect_eq r s = eq r.x0 s.x0 && (eq r.y0 s.y0 && (eq r.x1 s.x1 && eq r.y1 s.y1))
 
 -- every edge is finite: what refusal 5 asks
 unfoldable pub finite_rect : Rect → Bool

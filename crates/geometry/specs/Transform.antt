@@ -1,4 +1,4 @@
--- Transforms (document 01, module 1): six coefficients a..f kept as one record. (x, y) goes to (a·x + c·y + e, b·x + d·y + f).
+-- Transforms: six coefficients a..f kept as one record. (x, y) goes to (a·x + c·y + e, b·x + d·y + f).
 use Rattle.std.specs.Prelude.{Bool, ◌&&◌, Float}
 use Rattle.std.specs.Float.Ieee.{neg, eq}
 use Rattle.std.specs.Float.Ieee.Scale.{finite}
@@ -44,7 +44,7 @@ inverse t = inverse_by t (reciprocal_determinant t)
 
 -- equality as numbers
 unfoldable pub affine_eq : Affine → Affine → Bool
-affine_eq s t = eq s.a t.a && eq s.b t.b && (eq s.c t.c && eq s.d t.d) && (eq s.e t.e && eq s.f t.f)
+affine_eq s t = eq s.a t.a && (eq s.b t.b && (eq s.c t.c && (eq s.d t.d && (eq s.e t.e && eq s.f t.f))))
 
 -- every coefficient is finite: what refusal 5 asks
 unfoldable pub finite_affine : Affine → Bool

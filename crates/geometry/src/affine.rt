@@ -4,8 +4,9 @@ ghost use Rattle.geometry.specs.Transform as spec;
 
 use crate::point::Point;
 use numbers::is_finite;
+use std::ops::Mul;
 
-#[derive(Clone, Copy)]
+#[derive(Clone, Copy, PartialEq)]
 pub struct Affine {
     pub a: f64,
     pub b: f64,
@@ -13,6 +14,27 @@ pub struct Affine {
     pub d: f64,
     pub e: f64,
     pub f: f64,
+}
+
+// `other` is applied first.
+impl Mul for Affine {
+    type Output = Affine;
+
+    ghost mul_gives = { λ s t r. r ≡ spec.product s t };
+
+    #[tactic(auto, unfolding(crate::specs::Transform::product))]
+    fn mul(self, other: Affine) -> Affine
+        ensures { result ≡ spec.product self other }
+    {
+        Affine {
+            a: self.a * other.a + self.c * other.b,
+            b: self.b * other.a + self.d * other.b,
+            c: self.a * other.c + self.c * other.d,
+            d: self.b * other.c + self.d * other.d,
+            e: self.a * other.e + self.c * other.f + self.e,
+            f: self.b * other.e + self.d * other.f + self.f,
+        }
+    }
 }
 
 impl Affine {
@@ -30,21 +52,8 @@ impl Affine {
         }
     }
 
-    // Affine * Affine: `other` is applied first.
-    pub fn mul(self, other: Affine) -> Affine
-        ensures { result ≡ spec.product self other }
-    {
-        Affine {
-            a: self.a * other.a + self.c * other.b,
-            b: self.b * other.a + self.d * other.b,
-            c: self.a * other.c + self.c * other.d,
-            d: self.b * other.c + self.d * other.d,
-            e: self.a * other.e + self.c * other.f + self.e,
-            f: self.b * other.e + self.d * other.f + self.f,
-        }
-    }
-
     // A zero determinant is not refused.
+    #[tactic(auto, unfolding(crate::specs::Transform::inverse))]
     pub fn inverse(self) -> Affine
         ensures { result ≡ spec.inverse self }
     {
@@ -60,6 +69,7 @@ impl Affine {
     }
 
     // Affine * Point.
+    #[tactic(auto, unfolding(crate::specs::Transform::mapped))]
     pub fn map_point(self, p: Point) -> Point
         ensures { result ≡ spec.mapped self p }
     {
@@ -69,16 +79,7 @@ impl Affine {
         }
     }
 
-    // Equality as numbers.
-    pub fn eq(self, other: Affine) -> bool
-        ensures { result ≡ spec.affine_eq self other }
-    {
-        (self.a == other.a)
-            & (self.b == other.b)
-            & ((self.c == other.c) & (self.d == other.d))
-            & ((self.e == other.e) & (self.f == other.f))
-    }
-
+    #[tactic(auto, unfolding(crate::specs::Transform::finite_affine))]
     pub fn is_finite(self) -> bool
         ensures { result ≡ spec.finite_affine self }
     {

@@ -7,6 +7,7 @@ use crate::rect::Rect;
 use numbers::{max, min};
 
 // The axis-aligned box of the image of `rect`.
+#[tactic(auto, unfolding(crate::specs::bbox::Bbox::transform_rect_bbox))]
 pub fn transform_rect_bbox(affine: Affine, rect: Rect) -> Rect
     ensures { result ≡ transform_rect_bbox affine rect }
 {

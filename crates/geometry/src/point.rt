@@ -1,7 +1,7 @@
 // A point, as kurbo's point.rs has it.
 ghost use Rattle.std.specs.Prelude.{◌≡◌};
 
-#[derive(Clone, Copy)]
+#[derive(Clone, Copy, PartialEq)]
 pub struct Point {
     pub x: f64,
     pub y: f64,

@@ -5,13 +5,34 @@ ghost use Rattle.geometry.specs.Rectangle as spec;
 use crate::insets::Insets;
 use crate::point::Point;
 use numbers::{is_finite, max, min};
+use std::ops::Add;
 
-#[derive(Clone, Copy)]
+#[derive(Clone, Copy, PartialEq)]
 pub struct Rect {
     pub x0: f64,
     pub y0: f64,
     pub x1: f64,
     pub y1: f64,
+}
+
+// The corners are put in order first.
+impl Add<Insets> for Rect {
+    type Output = Rect;
+
+    ghost add_gives = { λ r i s. s ≡ spec.plus_insets r i };
+
+    #[tactic(auto, unfolding(crate::specs::Rectangle::plus_insets))]
+    fn add(self, insets: Insets) -> Rect
+        ensures { result ≡ spec.plus_insets self insets }
+    {
+        let r = self.abs();
+        Rect {
+            x0: r.x0 - insets.x0,
+            y0: r.y0 - insets.y0,
+            x1: r.x1 + insets.x1,
+            y1: r.y1 + insets.y1,
+        }
+    }
 }
 
 impl Rect {
@@ -34,6 +55,7 @@ impl Rect {
     }
 
     // Corners put in order.
+    #[tactic(auto, unfolding(crate::specs::Rectangle::ordered))]
     pub fn abs(self) -> Rect
         ensures { result ≡ spec.ordered self }
     {
@@ -45,6 +67,7 @@ impl Rect {
         }
     }
 
+    #[tactic(auto, unfolding(crate::specs::Rectangle::intersection))]
     pub fn intersect(self, other: Rect) -> Rect
         ensures { result ≡ spec.intersection self other }
     {
@@ -60,6 +83,7 @@ impl Rect {
         }
     }
 
+    #[tactic(auto, unfolding(crate::specs::Rectangle::union))]
     pub fn union(self, other: Rect) -> Rect
         ensures { result ≡ spec.union self other }
     {
@@ -72,41 +96,22 @@ impl Rect {
     }
 
     // Low edges in, high edges out.
+    #[tactic(auto, unfolding(crate::specs::Rectangle::contains))]
     pub fn contains(self, point: Point) -> bool
         ensures { result ≡ spec.contains self point }
     {
         (point.x >= self.x0) & (point.x < self.x1) & ((point.y >= self.y0) & (point.y < self.y1))
     }
 
-    // Rect + Insets: the corners are put in order first.
-    pub fn add(self, insets: Insets) -> Rect
-        ensures { result ≡ spec.plus_insets self insets }
-    {
-        let r = self.abs();
-        Rect {
-            x0: r.x0 - insets.x0,
-            y0: r.y0 - insets.y0,
-            x1: r.x1 + insets.x1,
-            y1: r.y1 + insets.y1,
-        }
-    }
-
     // The area test of the box tree's damage.
+    #[tactic(auto, unfolding(crate::specs::Rectangle::has_area))]
     pub fn has_area(self) -> bool
         ensures { result ≡ spec.has_area self }
     {
         (self.width() > 0.0) & (self.height() > 0.0)
     }
 
-    // Equality as numbers.
-    pub fn eq(self, other: Rect) -> bool
-        ensures { result ≡ spec.rect_eq self other }
-    {
-        (self.x0 == other.x0)
-            & (self.y0 == other.y0)
-            & ((self.x1 == other.x1) & (self.y1 == other.y1))
-    }
-
+    #[tactic(auto, unfolding(crate::specs::Rectangle::finite_rect))]
     pub fn is_finite(self) -> bool
         ensures { result ≡ spec.finite_rect self }
     {

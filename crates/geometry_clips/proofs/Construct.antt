@@ -5,7 +5,7 @@ use lib.Ieee.{Float, le, eq}
 use lib.Ieee.Scale.{finite}
 use Rattle.numbers.specs.Rounded as const
 use Rattle.numbers.specs.Number.{minimum, magnitude}
-use Rattle.numbers.proofs.Bools.{split, and_left, and_right, four, all_four}
+use Rattle.numbers.proofs.Bools.{split, and_left, and_right, four_chained, all_chained}
 use Rattle.numbers.proofs.Signs.{clear_half}
 use Rattle.numbers.proofs.Placed.{placed, placed_clear, min_clear, fit_again, fit_finite, fit_zero}
 use Rattle.geometry.specs.declared.rect.Rect.{Rect}
@@ -14,8 +14,7 @@ use Rattle.geometry.proofs.Corners.{ordered_again, ordered_le, ordered_finite}
 use Rattle.geometry_clips.specs.declared.rounded_rect_radii.RoundedRectRadii.{RoundedRectRadii}
 use Rattle.geometry_clips.specs.declared.clip.Clip.{Clip}
 use Rattle.geometry_clips.specs.declared.clip.Clip.TheVariants as is
-use Rattle.geometry_clips.specs.declared.clip_rect.ClipRect.{ClipRect}
-use Rattle.geometry_clips.specs.declared.clip_rect.ClipRect.TheVariants as of
+use Rattle.std.specs.Prelude.{Option, None, Some}
 use Rattle.geometry_clips.specs.Clips.{radii, all, cap, fitted, square, rounded, shaped, constructed, clip_rect, clip_radii, no_radii, constructed_of, finite_clip_rect, finite_clip}
 
 -- ---- what laws say of a constructed clip
@@ -27,9 +26,9 @@ zero_radii (is.Square x0 y0 x1 y1) = false
 zero_radii (is.Rounded x0 y0 x1 y1 tl tr br bl) = all (λ x. eq x const.zero) (radii tl tr br bl)
 
 -- the rectangle, where there is one, has its corners in order
-abbrev pub in_order : ClipRect → Bool
-in_order of.None = true
-in_order (of.Some r) = le r.x0 r.x1 && le r.y0 r.y1
+abbrev pub in_order : Option Rect → Bool
+in_order None = true
+in_order (Some r) = le r.x0 r.x1 && le r.y0 r.y1
 
 -- ---- the cap and the radii
 
@@ -47,8 +46,8 @@ module _ (r : Rect) (q : RoundedRectRadii) (C : magnitude (cap r) ≡ cap r) whe
   pub fitted_finite : all finite q ≡ true → all finite (fitted r q) ≡ true
   unfolding fitted
   fitted_finite f =
-      let F = four (finite q.top_left) (finite q.top_right) (finite q.bottom_right) (finite q.bottom_left) f in
-      all_four
+      let F = four_chained (finite q.top_left) (finite q.top_right) (finite q.bottom_right) (finite q.bottom_left) f in
+      all_chained
       (record {
         first = fit_finite (cap r) C q.top_left F.first;
         second = fit_finite (cap r) C q.top_right F.second;
@@ -74,7 +73,7 @@ module _ (r : Rect) (q : RoundedRectRadii) where
   pub shaped_zero_radii : zero_radii (shaped r q) ≡ false
   shaped_zero_radii = shaped_cases (λ (e : shaped r q ≡ square r). rw e) (λ (e : shaped r q ≡ rounded r q) (h : all (λ x. eq x const.zero) q ≡ false). rw e h)
 
-  pub shaped_rect : clip_rect (shaped r q) ≡ of.Some r
+  pub shaped_rect : clip_rect (shaped r q) ≡ Some r
   unfolding clip_rect
   shaped_rect = shaped_cases (λ (e : shaped r q ≡ square r). rw e) (λ (e : shaped r q ≡ rounded r q) (h : all (λ x. eq x const.zero) q ≡ false). rw e)
 
@@ -90,29 +89,29 @@ module _ (r : Rect) (q : RoundedRectRadii) where
       (λ (e : shaped r q ≡ rounded r q) (h : all (λ x. eq x const.zero) q ≡ false). ap constructed e ∙ rw (o, f))
 
 -- idempotent, to the bit, on every clip
-again : (g : ClipRect) (q : RoundedRectRadii) → constructed (constructed_of g q) ≡ constructed_of g q
+again : (g : Option Rect) (q : RoundedRectRadii) → constructed (constructed_of g q) ≡ constructed_of g q
 unfolding constructed clip_rect clip_radii
-again of.None q = refl
-again (of.Some g) q = shaped_again (ordered g) (fitted (ordered g) q) (ordered_again g) (cap_clear g) (fitted_again (ordered g) q (cap_clear g))
+again None q = refl
+again (Some g) q = shaped_again (ordered g) (fitted (ordered g) q) (ordered_again g) (cap_clear g) (fitted_again (ordered g) q (cap_clear g))
 
 pub construct_again : (c : Clip) → constructed (constructed c) ≡ constructed c
 unfolding constructed
 construct_again c = again (clip_rect c) (clip_radii c)
 
 -- never a rounded clip with four zero radii
-never_zero_radii : (g : ClipRect) (q : RoundedRectRadii) → zero_radii (constructed_of g q) ≡ false
-never_zero_radii of.None q = refl
-never_zero_radii (of.Some g) q = shaped_zero_radii (ordered g) (fitted (ordered g) q)
+never_zero_radii : (g : Option Rect) (q : RoundedRectRadii) → zero_radii (constructed_of g q) ≡ false
+never_zero_radii None q = refl
+never_zero_radii (Some g) q = shaped_zero_radii (ordered g) (fitted (ordered g) q)
 
 pub construct_zero_radii : (c : Clip) → zero_radii (constructed c) ≡ false
 unfolding constructed
 construct_zero_radii c = never_zero_radii (clip_rect c) (clip_radii c)
 
 -- finite values stay finite
-stays_finite : (g : ClipRect) (q : RoundedRectRadii) → finite_clip_rect g ≡ true → all finite q ≡ true → finite_clip (constructed_of g q) ≡ true
+stays_finite : (g : Option Rect) (q : RoundedRectRadii) → finite_clip_rect g ≡ true → all finite q ≡ true → finite_clip (constructed_of g q) ≡ true
 unfolding finite_clip finite_clip_rect clip_rect clip_radii
-stays_finite of.None q f h = refl
-stays_finite (of.Some g) q f h =
+stays_finite None q f h = refl
+stays_finite (Some g) q f h =
     shaped_finite (ordered g) (fitted (ordered g) q) (ordered_finite g f) (fitted_finite (ordered g) q (cap_clear g) h)
 
 pub construct_finite : (c : Clip) → finite_clip c ≡ true → finite_clip (constructed c) ≡ true
@@ -122,10 +121,10 @@ construct_finite c f =
     (and_right (finite_clip_rect (clip_rect c)) (all finite (clip_radii c)) f)
 
 -- the corners are in order
-in_order_lem : (g : ClipRect) (q : RoundedRectRadii) → finite_clip_rect g ≡ true → in_order (clip_rect (constructed_of g q)) ≡ true
+in_order_lem : (g : Option Rect) (q : RoundedRectRadii) → finite_clip_rect g ≡ true → in_order (clip_rect (constructed_of g q)) ≡ true
 unfolding finite_clip_rect clip_rect
-in_order_lem of.None q f = refl
-in_order_lem (of.Some g) q f =
+in_order_lem None q f = refl
+in_order_lem (Some g) q f =
     let o = ordered_le g f in
     rw (shaped_rect (ordered g) (fitted (ordered g) q), o.0, o.1)
 

@@ -1,5 +1,6 @@
-pub mod clip_rect
+pub mod Rects
 pub mod rounded_rect_radii
 pub mod rounded_rect
 pub mod constructed
 pub mod Clips
+pub mod Equality

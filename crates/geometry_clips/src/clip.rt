@@ -1,8 +1,9 @@
-// Clips, kurbo's rounded_rect.rs: where the box tree has an Option<RoundedRect>, a clip is none, square, or rounded.
+// Clips, kurbo's rounded_rect.rs: where the box tree has an Option<RoundedRect>, a clip is none, square, or rounded. The cases carry the
+// edges and the radii as separate numbers, a rule of the project.
 ghost use Rattle.std.specs.Prelude.{◌≡◌};
 ghost use Rattle.geometry_clips.specs.Clips.{inside, shaped, constructed, clip_rect, clip_radii, clip_eq, finite_clip};
+ghost use Rattle.geometry_clips.specs.Equality.{clip_laws};
 
-pub use crate::clip_rect::ClipRect;
 use crate::rounded_rect::winding;
 use crate::rounded_rect_radii::RoundedRectRadii;
 use geometry::point::Point;
@@ -30,6 +31,7 @@ pub enum Clip {
 }
 
 // Square where all radii are 0.
+#[tactic(auto, unfolding(crate::specs::Clips::shaped))]
 fn shape(r: Rect, q: RoundedRectRadii) -> Clip
     ensures { result ≡ shaped r q }
 {
@@ -54,39 +56,29 @@ fn shape(r: Rect, q: RoundedRectRadii) -> Clip
 }
 
 impl Clip {
-    pub fn rect(self) -> ClipRect
+    #[tactic(auto, unfolding(crate::specs::Clips::clip_rect))]
+    pub fn rect(self) -> Option<Rect>
         ensures { result ≡ clip_rect self }
     {
         match self {
-            Clip::None => ClipRect::None,
-            Clip::Square { x0, y0, x1, y1 } => ClipRect::Some(Rect { x0, y0, x1, y1 }),
-            Clip::Rounded {
-                x0,
-                y0,
-                x1,
-                y1,
-                top_left: _,
-                top_right: _,
-                bottom_right: _,
-                bottom_left: _,
-            } => { ClipRect::Some(Rect { x0, y0, x1, y1 }) }
+            Clip::None => None,
+            Clip::Square { x0, y0, x1, y1 } => Some(Rect { x0, y0, x1, y1 }),
+            Clip::Rounded { x0, y0, x1, y1, .. } => Some(Rect { x0, y0, x1, y1 }),
         }
     }
 
     // A square clip's radii are 0.
+    #[tactic(auto, unfolding(crate::specs::Clips::clip_radii))]
     pub fn radii(self) -> RoundedRectRadii
         ensures { result ≡ clip_radii self }
     {
         match self {
             Clip::Rounded {
-                x0: _,
-                y0: _,
-                x1: _,
-                y1: _,
                 top_left,
                 top_right,
                 bottom_right,
                 bottom_left,
+                ..
             } => {
                 RoundedRectRadii {
                     top_left, // and clockwise
@@ -95,21 +87,17 @@ impl Clip {
                     bottom_left,
                 }
             }
-            Clip::Square {
-                x0: _,
-                y0: _,
-                x1: _,
-                y1: _,
-            } => RoundedRectRadii::new(0.0, 0.0, 0.0, 0.0),
-            Clip::None => RoundedRectRadii::new(0.0, 0.0, 0.0, 0.0),
+            Clip::Square { .. } => RoundedRectRadii::default(),
+            Clip::None => RoundedRectRadii::default(),
         }
     }
 
     // The constructor, RoundedRect::from_rect: insert and the clip setter put every clip through it.
+    #[tactic(auto, unfolding(crate::specs::Clips::constructed))]
     pub fn construct(self) -> Clip
         ensures { result ≡ constructed self }
     {
-        let ClipRect::Some(given) = self.rect() else {
+        let Some(given) = self.rect() else {
             return Clip::None;
         };
         let r = given.abs();
@@ -117,25 +105,33 @@ impl Clip {
     }
 
     // No clip leaves every point inside.
+    #[tactic(auto, unfolding(crate::specs::Clips::inside))]
     pub fn contains(self, p: Point) -> bool
         ensures { result ≡ inside self p }
     {
-        let ClipRect::Some(r) = self.rect() else {
+        let Some(r) = self.rect() else {
             return true;
         };
         winding(r, self.radii(), p)
     }
 
-    // Equality as numbers.
-    pub fn eq(self, other: Clip) -> bool
-        ensures { result ≡ clip_eq self other }
-    {
-        self.rect().eq(other.rect()) & self.radii().eq(other.radii())
-    }
-
+    #[tactic(auto, unfolding(crate::specs::Clips::finite_clip, crate::specs::Rects::finite_clip_rect))]
     pub fn is_finite(self) -> bool
         ensures { result ≡ finite_clip self }
     {
-        self.rect().is_finite() & self.radii().is_finite()
+        let rect_is_finite = self.rect().is_none_or(|r| r.is_finite());
+        rect_is_finite & self.radii().is_finite()
+    }
+}
+
+// Equality as numbers. By hand, since a rounded clip with four zero radii equals the square one.
+impl PartialEq for Clip {
+    ghost eq = { clip_eq };
+
+    ghost laws = { clip_laws };
+
+    #[tactic(auto, unfolding(crate::specs::Clips::clip_eq, crate::specs::Rects::clip_rect_eq, geometry::specs::Rectangle::rect_eq))]
+    fn eq(&self, other: &Clip) -> bool {
+        (self.rect() == other.rect()) & (self.radii() == other.radii())
     }
 }

@@ -8,6 +8,7 @@ use crate::rounded_rect_radii::RoundedRectRadii;
 use geometry::rect::Rect;
 
 // Inner: the constructor leaves the clip as it is, to the bit.
+#[tactic(auto, unfolding(crate::specs::constructed::Constructed::as_constructed))]
 pub fn is_constructed(clip: Clip) -> bool
     ensures { result ≡ as_constructed clip }
 {

@@ -9,6 +9,7 @@ use geometry::rect::Rect;
 use numbers::{abs, max, same};
 
 // How far the offset `d` from the centre reaches past the straight part of a side.
+#[tactic(auto, using(numbers::proofs::Numbers::literals), unfolding(crate::specs::rounded_rect::RoundedRect::excess))]
 fn excess(d: f64, side: f64, radius: f64) -> f64
     ensures { result ≡ spec.excess d side radius }
 {
@@ -17,6 +18,7 @@ fn excess(d: f64, side: f64, radius: f64) -> f64
 }
 
 // RoundedRect::winding, as whether it is not 0: measured from the centre, with the radius of the point's quadrant.
+#[tactic(auto, using(numbers::proofs::Numbers::literals), unfolding(crate::specs::rounded_rect::RoundedRect::inside_rounded))]
 pub fn winding(r: Rect, q: RoundedRectRadii, p: Point) -> bool
     ensures { result ≡ spec.inside_rounded r q p }
 {

@@ -1,4 +1,4 @@
-// The four radii of a rounded rectangle (document 01, module 2), kurbo's rounded_rect_radii.rs. Every function takes every f64, NaN and
+// The four radii of a rounded rectangle, kurbo's rounded_rect_radii.rs. Every function takes every f64, NaN and
 // infinities included.
 ghost use Rattle.std.specs.Prelude.{◌≡◌};
 ghost use Rattle.std.specs.Float.Ieee.{eq};
@@ -9,7 +9,7 @@ ghost use Rattle.geometry_clips.specs.rounded_rect_radii.Radii as spec;
 use geometry::rect::Rect;
 use numbers::{abs, is_finite, min};
 
-#[derive(Clone, Copy)]
+#[derive(Clone, Copy, PartialEq, Default)]
 pub struct RoundedRectRadii {
     pub top_left: f64,
     pub top_right: f64,
@@ -30,6 +30,7 @@ impl RoundedRectRadii {
     }
 
     // Each radius the minimum of its absolute value and half the shorter side of `rect`, whose corners the constructor has ordered.
+    #[tactic(auto, using(numbers::proofs::Numbers::literals), unfolding(crate::specs::rounded_rect_radii::Radii::fitted))]
     pub fn fit(self, rect: Rect) -> Self
         ensures { result ≡ spec.fitted rect self }
     {
@@ -43,47 +44,33 @@ impl RoundedRectRadii {
     }
 
     // The radius of the quadrant that the offset (dx, dy) from the centre lies in, and 0 at a NaN.
+    #[tactic(auto, unfolding(crate::specs::rounded_rect_radii::Radii::quadrant))]
     pub fn quadrant(self, dx: f64, dy: f64) -> f64
         ensures { result ≡ spec.quadrant self dx dy }
     {
-        if (dx < 0.0) & (dy < 0.0) {
-            return self.top_left;
+        if dx.is_nan() | dy.is_nan() {
+            return 0.0;
         }
-        if (dx >= 0.0) & (dy < 0.0) {
-            return self.top_right;
+        match (dx < 0.0, dy < 0.0) {
+            (true, true) => self.top_left,
+            (false, true) => self.top_right,
+            (false, false) => self.bottom_right,
+            (true, false) => self.bottom_left,
         }
-        if (dx >= 0.0) & (dy >= 0.0) {
-            return self.bottom_right;
-        }
-        if (dx < 0.0) & (dy >= 0.0) {
-            return self.bottom_left;
-        }
-        0.0
     }
 
     // All four equal 0 as numbers.
     pub fn is_zero(self) -> bool
         ensures { result ≡ spec.all (λ x. eq x zero) self }
     {
-        (self.top_left == 0.0)
-            & (self.top_right == 0.0)
-            & ((self.bottom_right == 0.0) & (self.bottom_left == 0.0))
-    }
-
-    // Equality as numbers.
-    pub fn eq(self, other: RoundedRectRadii) -> bool
-        ensures { result ≡ spec.radii_eq self other }
-    {
-        (self.top_left == other.top_left)
-            & (self.top_right == other.top_right)
-            & ((self.bottom_right == other.bottom_right) & (self.bottom_left == other.bottom_left))
+        self == RoundedRectRadii::default()
     }
 
     pub fn is_finite(self) -> bool
         ensures { result ≡ spec.all finite self }
     {
         is_finite(self.top_left)
-            & is_finite(self.top_right)
-            & (is_finite(self.bottom_right) & is_finite(self.bottom_left))
+            & (is_finite(self.top_right)
+                & (is_finite(self.bottom_right) & is_finite(self.bottom_left)))
     }
 }

@@ -3,38 +3,16 @@
 #![tactic(auto)]
 
 mod show; // the parts of an answer
-mod damage; // a commit's answer
 mod calls; // each call
 
-use crate::calls::State;
+use std::io;
 use text_lines::input;
-use text_lines::input::{Input, Space};
-use text_lines::print::Buffer;
 
-// Answers the line that is held, if it is whole.
-fn answer_line(out: &mut Buffer, used: &mut usize, space: &Space, p: Input, s: State) -> State {
-    if !p.is_line {
-        return s;
-    }
-    let n = input::line_length(space, p);
-    let held = &space[..];
-    calls::answer(out, used, &held[..n], s)
-}
-
-// A proved loop has to end, and nothing says that the input does: the turns are counted down from a number that no run uses up.
-fn main(rt: HostRuntime) {
-    let mut reader = rt.stdin();
-    let mut block = io::large_buffer();
-    let mut space = [0u8; 512];
-    let mut out = io::large_buffer();
-    let mut used = 0;
-    let mut p = input::start();
-    let mut s = calls::start();
-    let mut turns = u64::MAX;
-    while turns > 0 && p.is_open {
-        p = input::next(&mut reader, &mut block, &mut space, p);
-        s = answer_line(&mut out, &mut used, &space, p, s);
-        used = input::written(&out, used, p);
-        turns -= 1;
-    }
+// A read that fails ends the list, as the end of the input does.
+fn main(rt: HostRuntime) -> io::Result<()> {
+    let mut state = calls::start();
+    input::answer_lines(rt.alloc(), rt.stdin(), rt.stdout(), |out, line| {
+        calls::answer(out, line, &mut state)
+    })?;
+    Ok(())
 }

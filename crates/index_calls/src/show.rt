@@ -1,20 +1,13 @@
 // The parts of an answer of the index.
-ghost use Rattle.std.specs.Prelude.{◌≤◌, ◌<◌};
-
-use index_state::{Answer, Refusal};
-use index_types::Aabb2D;
+use index_types::{Damage, Refusal};
+use std::io;
+use std::io::Write;
 use text_lines::print;
-use text_lines::print::Buffer;
+use text_lines::print::{Four, Out};
 
-// A space, and the box.
-pub(crate) fn corners(out: &mut Buffer, used: &mut usize, b: Aabb2D) {
-    print::text(out, used, b" ");
-    print::four(out, used, b.min_x, b.min_y, b.max_x, b.max_y);
-}
-
-// Document 01's number of a refusal.
-fn number(r: Refusal) -> usize {
-    match r {
+// The number of a refusal.
+pub(crate) fn number(refusal: Refusal) -> u32 {
+    match refusal {
         Refusal::Unsound => 1,
         Refusal::ShortRoom => 8,
         Refusal::DeadKey => 10,
@@ -22,48 +15,49 @@ fn number(r: Refusal) -> usize {
     }
 }
 
-pub(crate) fn refused(out: &mut Buffer, used: &mut usize, r: Refusal) {
-    print::text(out, used, b"refused ");
-    print::count(out, used, number(r));
+// The number of entries of a query, then their keys and payloads.
+pub(crate) fn entries(out: &mut Out, room: &[u32], count: usize) -> io::Result<()> {
+    write!(out, "{count}")?;
+    print::pairs(out, print::front(room, count, 4))
 }
 
-pub(crate) fn answer(out: &mut Buffer, used: &mut usize, a: Answer) {
-    match a {
-        Answer::Done => print::text(out, used, b"ok"),
-        Answer::Refused(r) => refused(out, used, r),
+// The room of a commit: for boxes that came and that went, and for those that moved where they were and where they are.
+#[derive(Clone, Copy)]
+pub(crate) struct Rooms {
+    pub(crate) added: [f64; 2048],
+    pub(crate) removed: [f64; 2048],
+    pub(crate) old: [f64; 2048],
+    pub(crate) new: [f64; 2048],
+}
+
+// A commit's answer: the boxes of each kind, and the union of them all.
+pub(crate) fn damage(out: &mut Out, rooms: &Rooms, damage: Damage) -> io::Result<()> {
+    let Damage {
+        added,
+        removed,
+        moved,
+    } = damage;
+    write!(out, "added {added}")?;
+    print::numbers(out, print::front(&rooms.added, added, 4))?;
+    write!(out, " removed {removed}")?;
+    print::numbers(out, print::front(&rooms.removed, removed, 4))?;
+    write!(out, " moved {moved}")?;
+    let before = rooms.old.chunks_exact(4);
+    let after = rooms.new.chunks_exact(4);
+    for (old, new) in before.zip(after).take(moved) {
+        print::numbers(out, old)?;
+        print::numbers(out, new)?;
     }
-}
-
-// At most 512: there are never more boxes of a kind, and never more entries.
-pub(crate) fn at_most(n: usize) -> usize
-    ensures { result ≤ 512 }
-{
-    if n <= 512 { n } else { 512 }
-}
-
-// A space, and the pair at the place `at`.
-fn pair_in(out: &mut Buffer, used: &mut usize, room: &[u32; 2048], at: usize)
-    requires { at < 2047 }
-{
-    print::text(out, used, b" ");
-    print::pair(out, used, room[at], room[at + 1]);
-}
-
-// A key, and its payload.
-fn entry(out: &mut Buffer, used: &mut usize, room: &[u32; 2048], i: usize)
-    requires { i < 512 }
-{
-    pair_in(out, used, room, i * 4);
-    pair_in(out, used, room, i * 4 + 2);
-}
-
-// The entries of a query, four numbers each: key and payload.
-pub(crate) fn entries(out: &mut Buffer, used: &mut usize, room: &[u32; 2048], n: usize) {
-    print::count(out, used, n);
-    let most = at_most(n);
-    let mut i = 0;
-    while i < most {
-        entry(out, used, room, i);
-        i += 1;
+    write!(out, " union ")?;
+    let Rooms {
+        added,
+        removed,
+        old,
+        new,
+    } = rooms;
+    match index_damage::union(damage, added, removed, old, new) {
+        Ok(Some(b)) => write!(out, "{}", Four([b.min_x, b.min_y, b.max_x, b.max_y])),
+        Ok(None) => write!(out, "none"),
+        Err(_) => write!(out, "short"),
     }
 }

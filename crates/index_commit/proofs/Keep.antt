@@ -9,11 +9,9 @@ use lib.ListN.{length, take, get_or}
 use lib.Seq.{get_or-set_same, get_or-set_other}
 use lib.Ieee.{Float}
 use lib.Dec.{eqb}
-use Rattle.index_types.specs.flat_tables.Tables.{box_at}
 use Rattle.counting.specs.Times.{tally, times}
 use Rattle.counting.proofs.Counting.{hit, miss, times_next}
 use Rattle.index_sound.specs.Sound.{CountOf}
-use Rattle.index_entries.specs.Entries.{previous_at}
 use Rattle.index_commit.specs.Commit.{Act, rests, adds, moves, drops, act_of, mark_step, Work, work_step, work}
 use Rattle.index_commit.proofs.Loop.{Does, does, nothing, add, move, drop, keep_slot, mark_length, free_length, slot_low, work_next}
 
@@ -35,16 +33,16 @@ module _ (mark : List ℕ) (x : ℕ) where
   other drops y n = get_or-set_other mark x y 0 0 n
 
 module _ (aabb prev : List Float) (dirty : List ℕ) (n u : ℕ) (w₀ : Work) (C : CountOf w₀.mark w₀.free w₀.frees dirty n u) (lm : length w₀.mark ≡ 512) (lf : length w₀.free ≡ 512) (lq : length dirty ≡ 512) where
-  abbrev at : ℕ → Work
+  abbrev pub at : ℕ → Work
   at i = work aabb prev w₀ (take i dirty)
 
   -- once the first i have had their turn
-  record Turn (i : ℕ) (w : Work) : Type 0 where
-    sound : CountOf w.mark w.free w.frees dirty n u
-    mark_whole : length w.mark ≡ 512
-    free_whole : length w.free ≡ 512
-    low : (y : ℕ) → 1 ≤ times y (take i dirty) → get_or w.mark y 0 < 2
-    still : (y : ℕ) → times y (take i dirty) ≡ 0 → get_or w.mark y 0 ≡ get_or w₀.mark y 0
+  pub record Turn (i : ℕ) (w : Work) : Type 0 where
+    pub sound : CountOf w.mark w.free w.frees dirty n u
+    pub mark_whole : length w.mark ≡ 512
+    pub free_whole : length w.free ≡ 512
+    pub low : (y : ℕ) → 1 ≤ times y (take i dirty) → get_or w.mark y 0 < 2
+    pub still : (y : ℕ) → times y (take i dirty) ≡ 0 → get_or w.mark y 0 ≡ get_or w₀.mark y 0
 
   one_more : (i : ℕ) (w : Work) → i < n → Turn i w → Turn (suc i) (work_step aabb prev w (get_or dirty i 0))
   unfolding work_step
@@ -55,7 +53,7 @@ module _ (aabb prev : List Float) (dirty : List ℕ) (n u : ℕ) (w₀ : Work) (
       let xl = slot_low w.mark w.free w.frees dirty n u i T.sound lq h in
       let t : (y : ℕ) → times y (take (suc i) dirty) ≡ times y (take i dirty) + tally (eqb y x) = λ y. rw (← add-one i) (times_next y dirty i (omega arith)) in
       record {
-        sound = keep_slot w.mark w.free w.frees dirty n u T.sound T.mark_whole T.free_whole lq x xl (box_at aabb x) (previous_at w.kept prev x);
+        sound = keep_slot w.mark w.free w.frees dirty n u T.sound T.mark_whole T.free_whole lq x xl;
         mark_whole = mark_length a w.mark x ∙ T.mark_whole;
         free_whole = free_length a w.free w.frees x ∙ T.free_whole;
         low = λ y l. elim (ℕ_discrete y x) [
@@ -68,7 +66,7 @@ module _ (aabb prev : List Float) (dirty : List ℕ) (n u : ℕ) (w₀ : Work) (
         ];
       }
 
-  turn : (i : ℕ) → i ≤ n → Turn i (at i)
+  pub turn : (i : ℕ) → i ≤ n → Turn i (at i)
   unfolding work times
   turn zero h = record { sound = C; mark_whole = lm; free_whole = lf; low = λ y l. absurd (omega arith); still = λ y e. refl }
   turn (suc i) h =

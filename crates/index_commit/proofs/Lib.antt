@@ -3,3 +3,4 @@ pub mod Rooms
 pub mod Loop
 pub mod Keep
 pub mod Agree
+pub mod Queue

@@ -10,8 +10,7 @@ use lib.Ieee.{Float}
 use Rattle.index_types.specs.declared.Aabb2D.{Aabb2D}
 use Rattle.index_types.specs.flat_tables.Tables.{of_box, put_box}
 use Rattle.index_types.proofs.flat_tables.Laws.{box_length}
-use Rattle.index_entries.specs.declared.reads.Previous.{Previous}
-use Rattle.index_entries.specs.declared.reads.Previous.TheVariants as was
+use Rattle.std.specs.Prelude.{Option, Some, None}
 use Rattle.index_commit.specs.Commit.{flat, boxes_in_front, boxes_with, room_with, count_with}
 
 flat_length : (bs : List Aabb2D) → length (flat bs) ≡ 4 * length bs
@@ -43,18 +42,18 @@ module _ (bs : List Aabb2D) (room : List Float) (h : 4 * length bs + 4 ≤ lengt
       let e : 4 * (length bs + 1) ≡ n + 4 = omega arith in
       rw (sets-eq (of_box b) l n long, take_at (flat bs) (drop n room) n fl, ← drop-drop 4 n l, drop_at (flat bs) (drop n room) n fl, drop-drop 4 n room, flat_append bs b, more bs b, e)
 
-  pub front_push : (p : Previous) → room_with (boxes_in_front bs room) (length bs) p ≡ boxes_in_front (boxes_with bs p) room
-  front_push was.None = refl
-  front_push (was.Some b) = front_one b
+  pub front_push : (p : Option Aabb2D) → room_with (boxes_in_front bs room) (length bs) p ≡ boxes_in_front (boxes_with bs p) room
+  front_push None = refl
+  front_push (Some b) = front_one b
 
-pub count_push : (bs : List Aabb2D) (p : Previous) → count_with (length bs) p ≡ length (boxes_with bs p)
-count_push bs was.None = refl
-count_push bs (was.Some b) = sym (more bs b)
+pub count_push : (bs : List Aabb2D) (p : Option Aabb2D) → count_with (length bs) p ≡ length (boxes_with bs p)
+count_push bs None = refl
+count_push bs (Some b) = sym (more bs b)
 
-pub count_small : (n i : ℕ) (p : Previous) → n ≤ i → count_with n p ≤ i + 1
-count_small n i was.None h = omega arith
-count_small n i (was.Some b) h = omega arith
+pub count_small : (n i : ℕ) (p : Option Aabb2D) → n ≤ i → count_with n p ≤ i + 1
+count_small n i None h = omega arith
+count_small n i (Some b) h = omega arith
 
-pub push_length : (room : List Float) (n : ℕ) (p : Previous) → length (room_with room n p) ≡ length room
-push_length room n was.None = refl
-push_length room n (was.Some b) = box_length room n b
+pub push_length : (room : List Float) (n : ℕ) (p : Option Aabb2D) → length (room_with room n p) ≡ length room
+push_length room n None = refl
+push_length room n (Some b) = box_length room n b

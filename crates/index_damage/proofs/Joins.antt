@@ -17,22 +17,22 @@ use Rattle.counting.proofs.Conditions.{told_refused, told_accepted}
 use Rattle.index_types.specs.declared.Aabb2D.{Aabb2D}
 use Rattle.index_types.specs.Boxes as box
 use Rattle.index_types.specs.flat_tables.Tables.{box_at}
-use Rattle.index_damage.specs.declared.Joined.{Joined}
-use Rattle.index_damage.specs.declared.Joined.TheVariants as is
+use Rattle.std.specs.Prelude as code
+use Rattle.std.specs.Prelude.{Ok}
 use Rattle.index_damage.specs.Damage.{with_box, join_all, boxes_in, moves_in, any_short_of, boxes_of, union_of, joined_told}
 
-join_append : (u : Joined) (bs cs : List Aabb2D) → join_all u (bs ++ cs) ≡ join_all (join_all u bs) cs
+join_append : (u : code.Option Aabb2D) (bs cs : List Aabb2D) → join_all u (bs ++ cs) ≡ join_all (join_all u bs) cs
 unfolding join_all
 join_append u [] cs = refl
 join_append u (b ∷ bs) cs = join_append (with_box u b) bs cs
 
 -- code's union is the boxes joined one after the other
-from_some : (a : Aabb2D) (bs : List Aabb2D) → joined_told (join_all (is.Some a) bs) ≡ gives (some (foldl box.union a bs))
+from_some : (a : Aabb2D) (bs : List Aabb2D) → joined_told (Ok (join_all (code.Some a) bs)) ≡ gives (some (foldl box.union a bs))
 unfolding join_all with_box
 from_some a [] = refl
 from_some a (b ∷ bs) = from_some (box.union a b) bs
 
-from_none : (bs : List Aabb2D) → joined_told (join_all is.None bs) ≡ gives (joined box.union bs)
+from_none : (bs : List Aabb2D) → joined_told (Ok (join_all code.None bs)) ≡ gives (joined box.union bs)
 unfolding join_all with_box joined
 from_none [] = refl
 from_none (a ∷ bs) = from_some a bs
@@ -44,17 +44,17 @@ short_told added a removed r old new m h = told_refused 7 _ (rw h) (joined box.u
 
 pub union_told : (added : List Float) (a : ℕ) (removed : List Float) (r : ℕ) (old new : List Float) (m : ℕ)
     → any_short_of (length added) a (length removed) r (length old) (length new) m ≡ false
-    → joined_told (join_all (join_all (join_all is.None (boxes_in added a)) (boxes_in removed r)) (moves_in old new m)) ≡ union_of added a removed r old new m
+    → joined_told (Ok (join_all (join_all (join_all code.None (boxes_in added a)) (boxes_in removed r)) (moves_in old new m))) ≡ union_of added a removed r old new m
 unfolding union_of lowest
 union_told added a removed r old new m h =
-    rw (← join_append (join_all is.None (boxes_in added a)) (boxes_in removed r) (moves_in old new m), ← join_append is.None (boxes_in added a) (boxes_in removed r ++ moves_in old new m))
+    rw (← join_append (join_all code.None (boxes_in added a)) (boxes_in removed r) (moves_in old new m), ← join_append code.None (boxes_in added a) (boxes_in removed r ++ moves_in old new m))
     (from_none (boxes_of added a removed r old new m) ∙ told_accepted _ (rw h) (joined box.union (boxes_of added a removed r old new m)))
 
-pub boxes_next : (u : Joined) (room : List Float) (i : ℕ) → join_all u (boxes_in room (i + 1)) ≡ with_box (join_all u (boxes_in room i)) (box_at room i)
+pub boxes_next : (u : code.Option Aabb2D) (room : List Float) (i : ℕ) → join_all u (boxes_in room (i + 1)) ≡ with_box (join_all u (boxes_in room i)) (box_at room i)
 unfolding boxes_in join_all
 boxes_next u room i = rw (add-one i) (join_append u (boxes_in room i) (box_at room i ∷ []))
 
-pub moves_next : (u : Joined) (old new : List Float) (i : ℕ) → join_all u (moves_in old new (i + 1)) ≡ with_box (with_box (join_all u (moves_in old new i)) (box_at old i)) (box_at new i)
+pub moves_next : (u : code.Option Aabb2D) (old new : List Float) (i : ℕ) → join_all u (moves_in old new (i + 1)) ≡ with_box (with_box (join_all u (moves_in old new i)) (box_at old i)) (box_at new i)
 unfolding moves_in join_all
 moves_next u old new i = rw (add-one i) (join_append u (moves_in old new i) (box_at old i ∷ box_at new i ∷ []))
 

@@ -6,19 +6,20 @@ use Rattle.counting.specs.Joined.{joined}
 use Rattle.index_types.specs.declared.Aabb2D.{Aabb2D}
 use Rattle.index_types.specs.Boxes as box
 use Rattle.index_types.specs.flat_tables.Tables.{box_at}
-use Rattle.index_damage.specs.declared.Joined.{Joined}
-use Rattle.index_damage.specs.declared.Joined.TheVariants as is
+use Rattle.index_types.specs.declared.Refusal.{Refusal}
+use Rattle.index_types.specs.Refusals.{number_of}
+use Rattle.std.specs.Prelude.{Result, Ok, Err}
+use Rattle.std.specs.Prelude as code
 
 abbrev pub is_empty : ℕ → ℕ → ℕ → Bool
 is_empty added removed moved = eqb added 0 && eqb removed 0 && eqb moved 0
 
 -- one box more, as code joins them: the first starts the union
-unfoldable pub with_box : Joined → Aabb2D → Joined
-with_box is.None b = is.Some b
-with_box (is.Some a) b = is.Some (box.union a b)
-with_box is.ShortRoom b = is.ShortRoom
+unfoldable pub with_box : code.Option Aabb2D → Aabb2D → code.Option Aabb2D
+with_box code.None b = code.Some b
+with_box (code.Some a) b = code.Some (box.union a b)
 
-unfoldable pub join_all : Joined → List Aabb2D → Joined
+unfoldable pub join_all : code.Option Aabb2D → List Aabb2D → code.Option Aabb2D
 join_all u [] = u
 join_all u (b ∷ bs) = join_all (with_box u b) bs
 
@@ -47,7 +48,7 @@ union_of added a removed r old new m =
 
 -- ---- the answer in these words
 
-abbrev pub joined_told : Joined → Told (Option Aabb2D)
-joined_told is.None = gives none
-joined_told (is.Some b) = gives (some b)
-joined_told is.ShortRoom = refused 8
+abbrev pub joined_told : Result (code.Option Aabb2D) Refusal → Told (Option Aabb2D)
+joined_told (Ok code.None) = gives none
+joined_told (Ok (code.Some b)) = gives (some b)
+joined_told (Err r) = refused (number_of r)

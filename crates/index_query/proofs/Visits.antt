@@ -7,7 +7,7 @@ use native.Mathlib.Nat.{mul-suc}
 use native.Mathlib.Numerals.{add-one}
 use native.Mathlib.Omega.{arith}
 use lib.ListN.{length, drop, get_or, length-append, length-drop}
-use lib.Seq.{sets-eq, take_at, drop_at, drop-drop, length-sets}
+use lib.Seq.{sets-eq, take_at, drop_at, drop-drop}
 use lib.Ieee.{Float, le}
 use Rattle.index_types.specs.declared.Aabb2D.{Aabb2D}
 use Rattle.index_types.specs.Boxes.{aabb, overlaps, contains_point}
@@ -46,11 +46,6 @@ point_rect b x y = regroup (le b.min_x x) (le b.min_y y) (le x b.max_x) (le y b.
 pub point_slots_lem : (present : List ℕ) (boxes : List Float) (mark : List ℕ) (x y : Float) → slots 512 (visits present boxes mark (aabb x y x y)) ≡ slots 512 (visits_point present boxes mark x y)
 point_slots_lem present boxes mark x y = slots_same 512 _ _ (λ s. rw (point_rect (box_at boxes s) x y))
 
--- a store leaves the room's length
-pub store_length : (t : Bool) (room : List ℕ) (n : ℕ) (ws : List ℕ) → length (cond t (store 4 room n ws) room) ≡ length room
-store_length true room n ws = length-sets room (4 * n) ws
-store_length false room n ws = refl
-
 -- ---- entries
 
 module _ (generation payload : List ℕ) where
@@ -82,21 +77,25 @@ module _ (generation payload : List ℕ) where
     pub many : n ≡ length (slots x p)
     pub few : n ≤ x
 
-  pub listed_next : (p : ℕ → Bool) (room₀ room room' : List ℕ) (n n' x : ℕ) (t : Bool) → Listed p room₀ room n x → x < 512 → 2048 ≤ length room₀ → t ≡ p x
-      → room' ≡ cond t (store 4 room n (words x (get_or generation x 0) (id_at payload x))) room → n' ≡ cond t (n + 1) n → Listed p room₀ room' n' (x + 1)
-  listed_next p room₀ room room' n n' x true L h l et er en =
-      let s : slots (x + 1) p ≡ slots x p ++ (x ∷ []) = rw (slots_next x p, ← et) in
-      let f = L.few in
-      let m = L.many in
-      record {
-        lies = er ∙ rw (L.lies, L.many, s) (front_one (slots x p) room₀ x (omega arith));
-        many = en ∙ rw (L.many, s) (sym (length-append (slots x p) (x ∷ [])));
-        few = omega (arith, en);
-      }
-  listed_next p room₀ room room' n n' x false L h l et er en =
-      let s : slots (x + 1) p ≡ slots x p = rw (slots_next x p, ← et) (append_none (slots x p)) in
-      let f = L.few in
-      record { lies = er ∙ rw s L.lies; many = en ∙ rw s L.many; few = omega (arith, en) }
+  module _ (p : ℕ → Bool) (room₀ room : List ℕ) (n x : ℕ) (L : Listed p room₀ room n x) where
+    -- it is listed
+    pub listed_next : (room' : List ℕ) → x < 512 → 2048 ≤ length room₀ → p x ≡ true → room' ≡ store 4 room n (words x (get_or generation x 0) (id_at payload x)) → Listed p room₀ room' (n + 1) (x + 1)
+    listed_next room' h l e r =
+        let s : slots (x + 1) p ≡ slots x p ++ (x ∷ []) = rw (slots_next x p, e) in
+        let f = L.few in
+        let m = L.many in
+        record {
+          lies = r ∙ rw (L.lies, L.many, s) (front_one (slots x p) room₀ x (omega arith));
+          many = rw (L.many, s) (sym (length-append (slots x p) (x ∷ [])));
+          few = omega arith;
+        }
+
+    -- it is not
+    pub listed_past : p x ≡ false → Listed p room₀ room n (x + 1)
+    listed_past e =
+        let s : slots (x + 1) p ≡ slots x p = rw (slots_next x p, e) (append_none (slots x p)) in
+        let f = L.few in
+        record { lies = rw s L.lies; many = rw s L.many; few = omega arith }
 
   -- nothing is looked at yet
   pub listed_none : (p : ℕ → Bool) (room : List ℕ) → Listed p room room 0 0

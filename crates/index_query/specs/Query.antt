@@ -1,4 +1,4 @@
--- The index's queries (document 01, module 4): "visits in rising slot order; containment and overlap include all edges".
+-- The index's queries: "visits in rising slot order; containment and overlap include all edges".
 use Rattle.std.specs.Prelude.{ℕ, zero, suc, Bool, not, ◌&&◌, cond, List, [], ◌∷◌, ◌++◌, eqb, length, drop, get_or, Float}
 use Rattle.index_types.specs.declared.Aabb2D.{Aabb2D}
 use Rattle.index_types.specs.declared.NodeId.{NodeId}

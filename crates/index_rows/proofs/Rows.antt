@@ -20,8 +20,8 @@ use Rattle.index_entries.specs.Entries.{next_generation, queue_with, length_with
 use Rattle.index_commit.specs.Commit.{act_of, box_before, moved_from, moved_to, work_step, work}
 use Rattle.index_query.specs.Query as query
 use Rattle.index_query.specs.Query.{slots}
-use Rattle.index_state.specs.declared.Index.{Index}
-use Rattle.index_state.specs.declared.Refusal.TheVariants as no
+use Rattle.index_types.specs.declared.Index.{Index}
+use Rattle.index_types.specs.declared.Refusal.TheVariants as no
 use Rattle.index_state.specs.Index.{sound_index, key_of, live, fresh_index, work_of, rect_slots, point_slots}
 use Rattle.index_state.specs.Calls.{Call, insert, update, remove, clear, commit, query_rect, query_point, refusal, accepted, after, Given, nothing, key, damage, entries, given, told, number_of}
 use Rattle.index_state.specs.Run.{run}

@@ -1,8 +1,9 @@
 -- Document 01's "Sound index", over the tables: the marks of the slots, the free list and the queue of dirty slots with their lengths, and
 -- how many slots are used. A mark is a number: 0 for an empty slot, 1 for an entry without a mark, 2 added, 3 updated, from 4 on removed.
-use Rattle.std.specs.Prelude.{ℕ, ◌≤◌, ◌<◌, ◌≡◌, Bool, ◌&&◌, ◌||◌, List, ltb, leb, eqb, take, get_or}
+use Rattle.std.specs.Prelude.{ℕ, ◌≤◌, ◌<◌, ◌≡◌, Bool, ◌&&◌, ◌||◌, List, ltb, leb, eqb, length, take, get_or}
 use Rattle.counting.specs.Times.{tally, times, every}
 use Rattle.counting.specs.Lists.{Listed, Once, once_below}
+use Rattle.index_types.specs.declared.Index.{Index}
 
 -- a used empty slot
 abbrev pub Empty : List ℕ → ℕ → ℕ → Type 0
@@ -43,6 +44,16 @@ sound_of mark free frees dirty queued used =
     && (once_below 512 free frees
     && (once_below 512 dirty queued
     && every 512 (λ x. slot_right x used (get_or mark x 0) (times x (take frees free)) (times x (take queued dirty)))))
+
+-- the lengths of the tables, as every value of the type has them
+pub record Shaped (ix : Index) : Type 0 where
+  pub mark_whole : length ix.mark ≡ 512
+  pub free_whole : length ix.free ≡ 512
+  pub dirty_whole : length ix.dirty ≡ 512
+
+-- 1: the index is unsound
+abbrev pub sound_index : Index → Bool
+sound_index ix = sound_of ix.mark ix.free ix.frees ix.dirty ix.queued ix.used
 
 -- ---- the same by counting: how often a slot stands in the free list and in the queue
 

@@ -1,106 +1,76 @@
-// Phases from a fresh index: 512 inserts, and 512 inserts with their commit.
-ghost use Rattle.std.specs.Prelude.{◌≡◌, length};
-
-use crate::{answers, work};
-use index_state::Index;
-use index_types::NodeId;
+// Phases from a fresh index: 512 inserts, and 512 inserts with their commit. What the answers add to a sum wraps; a refusal adds nothing, so a sum
+// tells it.
+use crate::work;
+use index_types::{Index, NodeId};
 use std::time::CpuClock;
 use text_lines::report;
 use understory_index::{commits, inserts};
 
+// The room of a commit: for boxes that came and that went, and for those that moved where they were and where they are.
 #[derive(Clone, Copy)]
-pub(crate) struct Load {
-    pub(crate) index: Index,
-    pub(crate) sum: u64,
+pub(crate) struct Rooms {
+    added: [f64; 2048],
+    removed: [f64; 2048],
+    old: [f64; 2048],
+    new: [f64; 2048],
 }
 
-pub(crate) fn box_room() -> [f64; 2048]
-    ensures { 2048 ≡ length result }
-{
-    [0.0; 2048]
-}
-
-// The first n entries, inserted.
-pub(crate) fn insert(n: u32, sum: u64) -> Load {
-    let mut ix = index_state::fresh();
-    let mut s = sum;
-    let mut i = 0u32;
-    while i < n {
-        let aabb = work::place(i, 0.0);
-        let after = inserts::insert(ix, aabb, NodeId(i, 1));
-        let answer = after.answer;
-        s = answers::inserted(s, answer);
-        ix = after.index;
-        i += 1;
+impl Rooms {
+    pub(crate) fn new() -> Rooms {
+        Rooms {
+            added: [0.0; 2048],
+            removed: [0.0; 2048],
+            old: [0.0; 2048],
+            new: [0.0; 2048],
+        }
     }
-    Load { index: ix, sum: s }
-}
 
-fn inserts(rounds: u32) -> u64 {
-    let mut sum = 0u64;
-    let mut left = rounds;
-    while left > 0 {
-        let load = insert(512, sum);
-        sum = load.sum;
-        left -= 1;
-    }
-    sum
-}
-
-pub(crate) fn commit(
-    load: Load,
-    added: &mut [f64],
-    removed: &mut [f64],
-    old: &mut [f64],
-    new: &mut [f64],
-) -> Load {
-    let ix = load.index;
-    let after = commits::commit(ix, added, removed, old, new);
-    let answer = after.answer;
-    let index = after.index;
-    Load {
-        index,
-        sum: answers::damage(load.sum, answer),
+    // Commits what waits, and adds the number of its boxes.
+    pub(crate) fn commit(&mut self, index: &mut Index, sum: u64) -> u64 {
+        let answer = commits::commit(
+            index,
+            &mut self.added,
+            &mut self.removed,
+            &mut self.old,
+            &mut self.new,
+        );
+        match answer {
+            Ok(damage) => sum
+                .wrapping_add(damage.added as u64)
+                .wrapping_add(damage.removed as u64)
+                .wrapping_add(damage.moved as u64),
+            Err(_) => sum,
+        }
     }
 }
 
-fn commits(
-    rounds: u32,
-    added: &mut [f64],
-    removed: &mut [f64],
-    old: &mut [f64],
-    new: &mut [f64],
-) -> u64 {
-    let mut sum = 0u64;
-    let mut left = rounds;
-    while left > 0 {
-        let load = commit(insert(512, sum), added, removed, old, new);
-        sum = load.sum;
-        left -= 1;
+// Inserts the first n entries, and adds the number of those that came in.
+pub(crate) fn insert(index: &mut Index, n: u32, start: u64) -> u64 {
+    let mut sum = start;
+    for i in 0..n {
+        if inserts::insert(index, work::place(i, 0.0), NodeId(i, 1)).is_ok() {
+            sum = sum.wrapping_add(1);
+        }
     }
     sum
 }
 
-// The first n entries, committed.
-pub(crate) fn committed(n: u32) -> Load {
-    let mut added = box_room();
-    let mut removed = box_room();
-    let mut old = box_room();
-    let mut new = box_room();
-    commit(insert(n, 0), &mut added, &mut removed, &mut old, &mut new)
+// The first n entries, committed, and the sum of that.
+pub(crate) fn committed(n: u32) -> (Index, u64) {
+    let mut index = index_state::fresh();
+    let sum = insert(&mut index, n, 0);
+    let sum = Rooms::new().commit(&mut index, sum);
+    (index, sum)
 }
 
-pub(crate) fn phases(rt: &impl CpuClock, rounds: u32) {
-    let began = report::clock(rt);
-    let sum = inserts(rounds);
-    let ended = report::clock(rt);
-    report::phase(b"insert", 512, began, ended, sum);
-    let mut added = box_room();
-    let mut removed = box_room();
-    let mut old = box_room();
-    let mut new = box_room();
-    let start = report::clock(rt);
-    let total = commits(rounds, &mut added, &mut removed, &mut old, &mut new);
-    let end = report::clock(rt);
-    report::phase(b"insert_commit", 512, start, end, total);
+pub(crate) fn phases<R: CpuClock + Print + Eprint>(rt: &R, rounds: u32) {
+    report::phase(rt, "insert", 512, rounds, 0, |sum, _| {
+        insert(&mut index_state::fresh(), 512, sum)
+    });
+    let mut rooms = Rooms::new();
+    report::phase(rt, "insert_commit", 512, rounds, 0, |sum, _| {
+        let mut index = index_state::fresh();
+        let inserted = insert(&mut index, 512, sum);
+        rooms.commit(&mut index, inserted)
+    });
 }

@@ -4,7 +4,6 @@
 #![tactic(auto)]
 
 mod work; // the boxes, points and rectangles of the list
-mod answers; // what the answers add to a sum
 mod fill; // inserts and commits of them
 mod change; // updates and commits of them
 mod ask; // queries
@@ -13,7 +12,7 @@ use text_lines::report;
 
 fn main(rt: HostRuntime) {
     let rounds = report::rounds(&mut rt.stdin());
-    report::total(b"rounds", 1, rounds as u64);
+    report::total(&rt, "rounds", 1, u64::from(rounds));
     fill::phases(&rt, rounds);
     change::phases(&rt, rounds);
     ask::phases(&rt, rounds);

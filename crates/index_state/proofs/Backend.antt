@@ -33,7 +33,7 @@ use Rattle.index_commit.proofs.Keep.{unmarked}
 use Rattle.index_commit.proofs.Agree.{own_work}
 use Rattle.index_commit.specs.Agree.{Has, unseen, Agree}
 use Rattle.index_query.specs.Query.{slots}
-use Rattle.index_state.specs.declared.Index.{Index}
+use Rattle.index_types.specs.declared.Index.{Index}
 use Rattle.index_state.specs.Index.{full, fresh_index, slot_of, insert_of, live, mark_at, update_of, remove_of, work_of, commit_of, rect_slots, point_slots}
 use Rattle.index_state.specs.Calls.{Call, insert, update, remove, clear, commit, query_rect, query_point, short, refusal, accepted, after}
 use Rattle.index_state.specs.Run.{run}

@@ -15,7 +15,7 @@ use Rattle.index_types.specs.declared.Aabb2D.{Aabb2D}
 use Rattle.index_types.specs.declared.NodeId.{NodeId}
 use Rattle.index_sound.specs.Sound.{SoundOf}
 use Rattle.index_sound.proofs.Exact.{decides}
-use Rattle.index_state.specs.declared.Index.{Index}
+use Rattle.index_types.specs.declared.Index.{Index}
 use Rattle.index_state.specs.Index.{sound_index, AllHeld, full, fresh_index, slot_of, generation_of, key_of}
 use Rattle.index_state.specs.Calls.{Call, insert, refusal, key, given, told}
 use Rattle.index_state.specs.Run.{run}

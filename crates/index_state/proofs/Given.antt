@@ -8,12 +8,11 @@ use lib.ListN.{length, get_or, take, length-append}
 use lib.Ieee.{Float}
 use Rattle.index_types.specs.declared.Aabb2D.{Aabb2D}
 use Rattle.index_types.specs.flat_tables.Tables.{box_at}
-use Rattle.index_entries.specs.declared.reads.Previous.{Previous}
-use Rattle.index_entries.specs.declared.reads.Previous.TheVariants as was
+use Rattle.std.specs.Prelude.{Option, Some, None}
 use Rattle.index_entries.specs.Entries.{previous_at}
 use Rattle.index_entries.proofs.slots.Slots.{never_0, generation_unused, generation_next}
 use Rattle.index_commit.specs.Commit.{Act, rests, adds, moves, drops, act_of, moved_from, moved_to, change_of, boxes_with, Work, work_step, work, start}
-use Rattle.index_state.specs.declared.Index.{Index}
+use Rattle.index_types.specs.declared.Index.{Index}
 use Rattle.index_state.specs.Index.{generation_of, work_of}
 
 -- "never 0": a slot's first generation is 1, and the later ones are the next of those before
@@ -27,17 +26,17 @@ key_never_0 ix z =
 -- ---- a move is a pair: its old box and its new one
 
 module _ (old new : List Aabb2D) (e : length old ≡ length new) where
-  pair : (p : Previous) (b : Aabb2D) → length (boxes_with old p) ≡ length (boxes_with new (moved_to p b))
+  pair : (p : Option Aabb2D) (b : Aabb2D) → length (boxes_with old p) ≡ length (boxes_with new (moved_to p b))
   unfolding moved_to
-  pair was.None b = e
-  pair (was.Some a) b = rw (length-append old (a ∷ []), length-append new (b ∷ []), e)
+  pair None b = e
+  pair (Some a) b = rw (length-append old (a ∷ []), length-append new (b ∷ []), e)
 
-  even_slot : (a : Act) (frees : ℕ) (b : Aabb2D) (p : Previous) → let c = change_of a frees b p in
+  even_slot : (a : Act) (b : Aabb2D) (p : Option Aabb2D) → let c = change_of a b p in
       length (boxes_with old c.old) ≡ length (boxes_with new c.new)
-  even_slot rests frees b p = e
-  even_slot adds frees b p = e
-  even_slot moves frees b p = pair (moved_from p b) b
-  even_slot drops frees b p = e
+  even_slot rests b p = e
+  even_slot adds b p = e
+  even_slot moves b p = pair (moved_from p b) b
+  even_slot drops b p = e
 
 even_work : (aabb prev : List Float) (w : Work) (xs : List ℕ) → length w.old ≡ length w.new → let v = work aabb prev w xs in
     length v.old ≡ length v.new
@@ -45,7 +44,7 @@ unfolding work work_step
 even_work aabb prev w [] e = e
 even_work aabb prev w (x ∷ xs) e =
     even_work aabb prev (work_step aabb prev w x) xs
-    (even_slot w.old w.new e (act_of (get_or w.mark x 0)) w.frees (box_at aabb x) (previous_at w.kept prev x))
+    (even_slot w.old w.new e (act_of (get_or w.mark x 0)) (box_at aabb x) (previous_at w.kept prev x))
 
 -- so one number counts both, of every index
 pub even_moves : (ix : Index) → length (work_of ix).old ≡ length (work_of ix).new

@@ -1,4 +1,4 @@
--- Refusal 1 of every call, both ways: it is answered if and only if document 01's "Sound index" fails. For every value of the type: `Shaped`
+-- Refusal 1 of every call, both ways: it is answered if and only if "Sound index" fails. For every value of the type: `Shaped`
 -- says that the tables have the type's lengths, and nothing else.
 use mathlib.Core.Path.{◌≡◌, refl, sym}
 use mathlib.Core.Bool.{Bool, true, false, not}
@@ -13,7 +13,7 @@ use Rattle.counting.proofs.Kit.{contra}
 use Rattle.counting.proofs.Conditions.{told_number, told_refused}
 use Rattle.index_sound.specs.Sound.{SoundOf}
 use Rattle.index_sound.proofs.Exact.{decides}
-use Rattle.index_state.specs.declared.Index.{Index}
+use Rattle.index_types.specs.declared.Index.{Index}
 use Rattle.index_state.specs.Index.{sound_index, full, fresh_index, live}
 use Rattle.index_state.specs.Calls.{Call, insert, update, remove, clear, commit, query_rect, query_point, short, room_for_entries, refusal, given, told}
 use Rattle.index_state.specs.Run.{run}

@@ -24,7 +24,7 @@ use Rattle.index_entries.proofs.Finding.{live_slot}
 use Rattle.index_entries.proofs.Keep.{keep_insert, keep_update, keep_remove}
 use Rattle.index_commit.proofs.Keep.{keep_commit, commit_whole}
 use Rattle.index_commit.specs.Commit.{start}
-use Rattle.index_state.specs.declared.Index.{Index}
+use Rattle.index_types.specs.declared.Index.{Index}
 use Rattle.index_state.specs.Index.{sound_index, full, fresh_index, slot_of, insert_of, live, mark_at, update_of, remove_of, work_of, commit_of}
 use Rattle.index_state.specs.Calls.{Call, insert, update, remove, clear, commit, query_rect, query_point, refusal, accepted, after}
 use Rattle.index_state.specs.Run.{run}

@@ -1,23 +1,16 @@
--- Every call of the index, by its name and arguments: what refuses it, by document 01's numbers; what it leaves of the index and of lent room; and
+-- Every call of the index, by its name and arguments: what refuses it, by number; what it leaves of the index and of lent room; and
 -- what it tells. Of lent room a refusal hears the length alone.
-use Rattle.std.specs.Prelude.{ℕ, ◌≡◌, Bool, not, ◌||◌, List, ltb, length, Float}
+use Rattle.std.specs.Prelude.{ℕ, ◌≡◌, Bool, not, ◌||◌, List, ltb, length, Float, Result, Ok, Err}
 use Rattle.counting.specs.Conditions.{Conditions, accept, ◌else◌then◌, lowest, Told, refused, gives, told_if, left_if}
 use Rattle.index_types.specs.declared.Aabb2D.{Aabb2D}
 use Rattle.index_types.specs.declared.NodeId.{NodeId}
 use Rattle.index_types.specs.declared.Key.{Key}
 use Rattle.index_commit.specs.Commit.{boxes_in_front}
 use Rattle.index_query.specs.Query as query
-use Rattle.index_state.specs.declared.Index.{Index}
-use Rattle.index_state.specs.declared.Refusal.{Refusal}
-use Rattle.index_state.specs.declared.Refusal.TheVariants as no
-use Rattle.index_state.specs.declared.Inserted.{Inserted}
-use Rattle.index_state.specs.declared.Inserted.TheVariants as inserts
-use Rattle.index_state.specs.declared.Answer.{Answer}
-use Rattle.index_state.specs.declared.Answer.TheVariants as answers
-use Rattle.index_state.specs.declared.Committed.{Committed}
-use Rattle.index_state.specs.declared.Committed.TheVariants as commits
-use Rattle.index_state.specs.declared.Queried.{Queried}
-use Rattle.index_state.specs.declared.Queried.TheVariants as queries
+use Rattle.index_types.specs.declared.Index.{Index}
+use Rattle.index_types.specs.declared.Refusal.{Refusal}
+use Rattle.index_types.specs.declared.Damage.{Damage}
+pub use Rattle.index_types.specs.Refusals.{number_of}
 use Rattle.index_state.specs.Index.{sound_index, full, fresh_index, slot_of, generation_of, insert_of, key_of, live, update_of, remove_of, work_of, commit_of, rect_slots, point_slots}
 
 pub data Call : Type 0 where
@@ -90,27 +83,21 @@ told ix c = told_if (refusal ix c) (given ix c)
 
 -- ---- each answer in these words
 
-abbrev pub number_of : Refusal → ℕ
-number_of no.Unsound = 1
-number_of no.ShortRoom = 8
-number_of no.DeadKey = 10
-number_of no.Full = 11
+abbrev pub inserted_told : Result Key Refusal → Told Given
+inserted_told (Ok k) = gives (key k)
+inserted_told (Err r) = refused (number_of r)
 
-abbrev pub inserted_told : Inserted → Told Given
-inserted_told (inserts.Key k) = gives (key k)
-inserted_told (inserts.Refused r) = refused (number_of r)
+abbrev pub answer_told : Result Unit Refusal → Told Given
+answer_told (Ok u) = gives nothing
+answer_told (Err r) = refused (number_of r)
 
-abbrev pub answer_told : Answer → Told Given
-answer_told answers.Done = gives nothing
-answer_told (answers.Refused r) = refused (number_of r)
+abbrev pub committed_told : Result Damage Refusal → Told Given
+committed_told (Ok d) = gives (damage d.added d.removed d.moved)
+committed_told (Err r) = refused (number_of r)
 
-abbrev pub committed_told : Committed → Told Given
-committed_told (commits.Damage added removed moved) = gives (damage added removed moved)
-committed_told (commits.Refused r) = refused (number_of r)
-
-abbrev pub queried_told : Queried → Told Given
-queried_told (queries.Entries n) = gives (entries n)
-queried_told (queries.Refused r) = refused (number_of r)
+abbrev pub queried_told : Result ℕ Refusal → Told Given
+queried_told (Ok n) = gives (entries n)
+queried_told (Err r) = refused (number_of r)
 
 -- ---- lent room after a call: the results in front, and nothing touched where it is refused
 
@@ -126,3 +113,8 @@ pub record CommitRooms (ix : Index) (added removed old new added' removed' old' 
 -- of a query that visits these slots
 unfoldable pub query_room : Index → List ℕ → List ℕ → List ℕ
 query_room ix xs room = left_if (lowest (conditions_of_query ix (length room))) room (query.entries_in_front (query.entries ix.generation ix.payload xs) room)
+
+-- all that an answer of a call is made of: unfolding this unfolds each of them
+unfoldable pub answered : Unit {0}
+unfolding told after refusal given accepted query_room rect_slots lowest told_if left_if
+answered = tt

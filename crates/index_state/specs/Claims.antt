@@ -1,20 +1,15 @@
 -- What the theorems over every list of calls, and over every index, claim (proofs/Refused.antt, proofs/Full.antt, proofs/Backend.antt).
-use Rattle.std.specs.Prelude.{ℕ, ◌≤◌, ◌≡◌, Bool, length, get_or}
+use Rattle.std.specs.Prelude.{ℕ, ◌≤◌, ◌≡◌, Bool, get_or}
 use Rattle.index_types.specs.declared.Aabb2D.{Aabb2D}
 use Rattle.index_types.specs.declared.NodeId.{NodeId}
 use Rattle.index_types.specs.flat_tables.Tables.{box_at}
 use Rattle.counting.specs.Times.{tally}
 use Rattle.counting.specs.Conditions.{Told, refused, gives}
 use Rattle.index_commit.specs.Agree.{Agree}
-use Rattle.index_state.specs.declared.Index.{Index}
+use Rattle.index_types.specs.declared.Index.{Index}
+pub use Rattle.index_sound.specs.Sound.{Shaped}
 use Rattle.index_state.specs.Index.{AllHeld, slot_of, generation_of, key_of}
 use Rattle.index_state.specs.Calls.{insert, Given, key, told}
-
--- the lengths of the tables, as every value of the type has them
-pub record Shaped (ix : Index) : Type 0 where
-  pub mark_whole : length ix.mark ≡ 512
-  pub free_whole : length ix.free ≡ 512
-  pub dirty_whole : length ix.dirty ≡ 512
 
 -- refused by 1 exactly where a fact fails
 abbrev pub OneExactlyUnless : Type 0 → Told Given → Type 0

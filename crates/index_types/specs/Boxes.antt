@@ -28,4 +28,4 @@ union b c =
 
 -- equality as numbers: −0 equals +0, a NaN equals nothing
 unfoldable pub aabb_eq : Aabb2D → Aabb2D → Bool
-aabb_eq b c = eq b.min_x c.min_x && eq b.min_y c.min_y && (eq b.max_x c.max_x && eq b.max_y c.max_y)
+aabb_eq b c = eq b.min_x c.min_x && (eq b.min_y c.min_y && (eq b.max_x c.max_x && eq b.max_y c.max_y))

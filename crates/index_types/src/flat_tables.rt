@@ -2,7 +2,7 @@
 ghost use Rattle.std.specs.Prelude.{◌≡◌, ◌+◌, ◌*◌, ◌<◌, ◌≤◌, length};
 ghost use Rattle.index_types.specs.flat_tables.Tables.{box_at, put_box, id_at, put_id};
 
-use crate::{Aabb2D, NodeId};
+use crate::{Aabb2D, NodeId, rooms};
 
 // Inner: four numbers of lent room as a box; the room is long enough.
 pub fn box_in(room: &[f64], i: usize) -> Aabb2D
@@ -60,7 +60,5 @@ pub fn put_id(a: &mut [u32; 1024], i: usize, n: NodeId)
     requires { i < 512 }
     ensures { a.new ≡ put_id a.old i n }
 {
-    let p = 2 * i;
-    a[p] = n.0;
-    a[p + 1] = n.1;
+    rooms::put_id(a, i, n);
 }

@@ -9,15 +9,15 @@ ghost use Rattle.std.specs.Prelude.{◌≡◌};
 ghost use Rattle.index_types.specs.Boxes as spec;
 
 // A node of the box tree: its index and generation. The index carries it as payload.
-#[derive(Clone, Copy)]
+#[derive(Clone, Copy, PartialEq, Eq)]
 pub struct NodeId(pub u32, pub u32);
 
 // An entry of the index: its slot and generation. No node id can stand for it.
-#[derive(Clone, Copy)]
+#[derive(Clone, Copy, PartialEq, Eq)]
 pub struct Key(pub u32, pub u32);
 
-// An axis-aligned box.
-#[derive(Clone, Copy)]
+// An axis-aligned box. Equality is that of the numbers.
+#[derive(Clone, Copy, PartialEq)]
 pub struct Aabb2D {
     pub min_x: f64,
     pub min_y: f64,
@@ -25,7 +25,50 @@ pub struct Aabb2D {
     pub max_y: f64,
 }
 
+// FlatVec: a box for each slot whose entry the last commits have left there. 0 in `present` stands for none.
+#[derive(Clone, Copy)]
+pub struct FlatVec {
+    pub present: [u8; 512],
+    pub boxes: [f64; 2048],
+}
+
+// The tables of the slots, entry by entry; the free list and the queue of dirty slots with their lengths; and the backend. Marks and flags are numbers: a
+// call takes any index, also one made by hand, and a narrower type would ask more of its caller.
+#[derive(Clone, Copy)]
+pub struct Index {
+    pub generation: [u32; 512],
+    pub mark: [u8; 512], // 0 empty, 1 unmarked, 2 added, 3 updated, from 4 on removed
+    pub payload: [u32; 1024],
+    pub aabb: [f64; 2048],
+    pub kept: [u8; 512], // 0: no previous box
+    pub prev: [f64; 2048],
+    pub used: usize,
+    pub free: [u32; 512],
+    pub frees: usize,
+    pub dirty: [u32; 512],
+    pub queued: usize,
+    pub backend: FlatVec,
+}
+
+// How many boxes of each kind a commit has found; a move is an old and a new box.
+#[derive(Clone, Copy, PartialEq, Eq)]
+pub struct Damage {
+    pub added: usize,
+    pub removed: usize,
+    pub moved: usize,
+}
+
+// Why a call is refused; `number_of` in specs/Refusals.antt has the numbers.
+#[derive(Clone, Copy, PartialEq, Eq)]
+pub enum Refusal {
+    Unsound,
+    ShortRoom,
+    DeadKey,
+    Full,
+}
+
 // The smaller; an unordered pair gives the first.
+#[tactic(auto, unfolding(crate::specs::Boxes::least))]
 pub fn min_t(a: f64, b: f64) -> f64
     ensures { result ≡ spec.least a b }
 {
@@ -33,6 +76,7 @@ pub fn min_t(a: f64, b: f64) -> f64
 }
 
 // The larger; an unordered pair gives the first.
+#[tactic(auto, unfolding(crate::specs::Boxes::greatest))]
 pub fn max_t(a: f64, b: f64) -> f64
     ensures { result ≡ spec.greatest a b }
 {
@@ -52,21 +96,25 @@ impl Aabb2D {
     }
 
     // All edges in.
+    #[tactic(auto, unfolding(crate::specs::Boxes::contains_point))]
     pub fn contains_point(self, x: f64, y: f64) -> bool
         ensures { result ≡ spec.contains_point self x y }
     {
-        (self.min_x <= x) & (self.min_y <= y) & ((x <= self.max_x) & (y <= self.max_y))
+        self.min_x <= x && self.min_y <= y && x <= self.max_x && y <= self.max_y
     }
 
     // All edges in, of both.
+    #[tactic(auto, unfolding(crate::specs::Boxes::overlaps))]
     pub fn overlaps(self, other: Aabb2D) -> bool
         ensures { result ≡ spec.overlaps self other }
     {
-        (self.min_x <= other.max_x)
-            & (self.max_x >= other.min_x)
-            & ((self.min_y <= other.max_y) & (self.max_y >= other.min_y))
+        self.min_x <= other.max_x
+            && self.max_x >= other.min_x
+            && self.min_y <= other.max_y
+            && self.max_y >= other.min_y
     }
 
+    #[tactic(auto, unfolding(crate::specs::Boxes::union))]
     pub fn union(self, other: Aabb2D) -> Aabb2D
         ensures { result ≡ spec.union self other }
     {
@@ -76,14 +124,5 @@ impl Aabb2D {
             max_x: max_t(self.max_x, other.max_x),
             max_y: max_t(self.max_y, other.max_y),
         }
-    }
-
-    // Equality as numbers.
-    pub fn eq(self, other: Aabb2D) -> bool
-        ensures { result ≡ spec.aabb_eq self other }
-    {
-        (self.min_x == other.min_x)
-            & (self.min_y == other.min_y)
-            & ((self.max_x == other.max_x) & (self.max_y == other.max_y))
     }
 }

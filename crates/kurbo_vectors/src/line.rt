@@ -1,130 +1,167 @@
-// A line's words, each 16 hexadecimal digits, and numbers against words.
-ghost use Rattle.std.specs.Prelude.{◌≡◌, ◌≤◌, true, length, from_bits};
+// The words of a vector's line, and numbers against words.
+ghost use Rattle.std.specs.Prelude.{◌≡◌, true, from_bits};
 ghost use Rattle.std.specs.Float.{binary64};
-ghost use Rattle.io.specs.Counts.{IsPrefixLen};
 
+use geometry::affine::Affine;
+use geometry::insets::Insets;
 use geometry::point::Point;
 use geometry::rect::Rect;
-use text_lines::spelling;
-use text_lines::spelling::{Word, float};
+use geometry_clips::clip::Clip;
+use text_lines::spelling::{float, is_nan, pattern};
+use text_lines::words::Words;
 
-// How a line fares. `Unknown`: its name is not one of those that were tried.
+// A line that is no vector.
 #[derive(Clone, Copy)]
-pub(crate) enum Outcome {
-    Same,
-    Differs,
-    Malformed,
-    Unknown,
+pub(crate) struct Malformed;
+
+// Whether what an operation gives is what the vector has.
+pub(crate) type Outcome = Result<bool, Malformed>;
+
+// The words behind the name, each 16 hexadecimal digits.
+#[derive(Drop)]
+pub(crate) struct Operands<'a> {
+    pub(crate) words: Words<'a>,
 }
 
-#[derive(Clone, Copy)]
-pub(crate) enum Count {
-    Words(usize),
-    Malformed,
-}
-
-// Where the name ends: at the first space, or with the line, or after 24 bytes, as no name is so long.
-pub(crate) fn name_end(line: &[u8]) -> usize
-    ensures { IsPrefixLen result line.now }
-{
-    let end = byte_search::find(line, 0, line.len(), b' ');
-    if end <= 24 { end } else { 24 }
-}
-
-// A space, and then the digits.
-fn parsed(s: &[u8]) -> Word {
-    if s.len() == 0 {
-        return Word::None;
+impl<'a> Operands<'a> {
+    pub(crate) fn bits(&mut self) -> Result<u64, Malformed> {
+        self.words.next().and_then(pattern).ok_or(Malformed)
     }
-    if s[0] != b' ' {
-        return Word::None;
-    }
-    spelling::pattern(&s[1..])
-}
 
-// The words of `line` from `from` on, at most 20.
-pub(crate) fn read(line: &[u8], from: usize, w: &mut [u64; 20]) -> Count
-    requires { from ≤ length line.now }
-{
-    let mut at = from;
-    let mut n = 0;
-    while at < line.len() {
-        if line.len() - at < 17 {
-            return Count::Malformed;
+    pub(crate) fn number(&mut self) -> Result<f64, Malformed> {
+        Ok(float(self.bits()?))
+    }
+
+    pub(crate) fn point(&mut self) -> Result<Point, Malformed> {
+        Ok(Point {
+            x: self.number()?,
+            y: self.number()?,
+        })
+    }
+
+    pub(crate) fn rect(&mut self) -> Result<Rect, Malformed> {
+        Ok(Rect {
+            x0: self.number()?,
+            y0: self.number()?,
+            x1: self.number()?,
+            y1: self.number()?,
+        })
+    }
+
+    pub(crate) fn insets(&mut self) -> Result<Insets, Malformed> {
+        let Rect { x0, y0, x1, y1 } = self.rect()?;
+        Ok(Insets { x0, y0, x1, y1 })
+    }
+
+    pub(crate) fn affine(&mut self) -> Result<Affine, Malformed> {
+        Ok(Affine {
+            a: self.number()?,
+            b: self.number()?,
+            c: self.number()?,
+            d: self.number()?,
+            e: self.number()?,
+            f: self.number()?,
+        })
+    }
+
+    // Nine words: the kind, the four edges, the four radii. A kind leaves unread what it has not.
+    pub(crate) fn clip(&mut self) -> Result<Clip, Malformed> {
+        let kind = self.bits()?;
+        let Rect { x0, y0, x1, y1 } = self.rect()?;
+        let Rect {
+            x0: top_left,
+            y0: top_right,
+            x1: bottom_right,
+            y1: bottom_left,
+        } = self.rect()?;
+        match kind {
+            0 => Ok(Clip::None),
+            1 => Ok(Clip::Square { x0, y0, x1, y1 }),
+            2 => Ok(Clip::Rounded {
+                x0,
+                y0,
+                x1,
+                y1,
+                top_left,
+                top_right,
+                bottom_right,
+                bottom_left,
+            }),
+            _ => Err(Malformed),
         }
-        if n >= 20 {
-            return Count::Malformed;
-        }
-        let next = at + 17;
-        match parsed(&line[at..next]) {
-            Word::Bits(b) => {
-                w[n] = b;
-            }
-            Word::None => {
-                return Count::Malformed;
-            }
-        }
-        n += 1;
-        at = next;
-    }
-    Count::Words(n)
-}
-
-// A vector of the right form agrees or differs.
-pub(crate) fn judged(is_formed: bool, is_same: bool) -> Outcome {
-    if !is_formed {
-        return Outcome::Malformed;
-    }
-    if is_same {
-        Outcome::Same
-    } else {
-        Outcome::Differs
     }
 }
 
 // To the bit, but for a NaN's pattern.
-pub(crate) fn exact(w: u64, x: f64) -> bool
-    ensures { result ≡ true → x ≡ from_bits binary64 w }
+pub(crate) fn exact(x: f64, bits: u64) -> bool
+    ensures { result ≡ true → x ≡ from_bits binary64 bits }
 {
-    if x != x {
-        return spelling::is_nan(w);
+    if x.is_nan() {
+        return is_nan(bits);
     }
-    f64::to_bits(x) == w
+    x.to_bits() == bits
+}
+
+pub(crate) fn exact_point(p: Point, w: &mut Operands) -> Outcome {
+    Ok(exact(p.x, w.bits()?) & exact(p.y, w.bits()?))
+}
+
+pub(crate) fn exact_affine(t: Affine, w: &mut Operands) -> Outcome {
+    let ab = exact(t.a, w.bits()?) & exact(t.b, w.bits()?);
+    let cd = exact(t.c, w.bits()?) & exact(t.d, w.bits()?);
+    let ef = exact(t.e, w.bits()?) & exact(t.f, w.bits()?);
+    Ok(ab & cd & ef)
 }
 
 // As numbers: a zero's sign does not count, and NaN is alike NaN.
-pub(crate) fn alike(w: u64, x: f64) -> bool {
-    let y = float(w);
-    (x == y) | ((x != x) & (y != y))
+pub(crate) fn alike(x: f64, y: f64) -> bool {
+    x == y || x.is_nan() && y.is_nan()
+}
+
+pub(crate) fn alike_rect(r: Rect, s: Rect) -> bool {
+    alike(r.x0, s.x0) && alike(r.y0, s.y0) && alike(r.x1, s.x1) && alike(r.y1, s.y1)
+}
+
+// A clip against its nine words.
+pub(crate) fn alike_clip(c: Clip, w: &mut Operands) -> Outcome {
+    let kind = w.bits()?;
+    let edges = w.rect()?;
+    let radii = w.rect()?;
+    Ok(match c {
+        Clip::None => kind == 0,
+        Clip::Square { x0, y0, x1, y1 } => kind == 1 && alike_rect(Rect { x0, y0, x1, y1 }, edges),
+        Clip::Rounded {
+            x0,
+            y0,
+            x1,
+            y1,
+            top_left,
+            top_right,
+            bottom_right,
+            bottom_left,
+        } => {
+            let own = Rect {
+                x0: top_left,
+                y0: top_right,
+                x1: bottom_right,
+                y1: bottom_left,
+            };
+            kind == 2 && alike_rect(Rect { x0, y0, x1, y1 }, edges) && alike_rect(own, radii)
+        }
+    })
+}
+
+// Whether there is a rectangle, and the rectangle, against their words.
+pub(crate) fn alike_clip_rect(found: Option<Rect>, w: &mut Operands) -> Outcome {
+    let is_there = w.bits()?;
+    let rect = w.rect()?;
+    Ok(match found {
+        None => is_there == 0,
+        Some(r) => is_there == 1 && alike_rect(r, rect),
+    })
 }
 
 // A truth value: 1 or 0.
-pub(crate) fn holds(w: u64, b: bool) -> bool {
-    if b { w == 1 } else { w == 0 }
-}
-
-pub(crate) fn point(w: &[u64; 20], i: usize) -> Point
-    requires { i ≤ 18 }
-{
-    Point {
-        x: float(w[i]),
-        y: float(w[i + 1]),
-    }
-}
-
-pub(crate) fn rect(w: &[u64; 20], i: usize) -> Rect
-    requires { i ≤ 16 }
-{
-    Rect {
-        x0: float(w[i]),
-        y0: float(w[i + 1]),
-        x1: float(w[i + 2]),
-        y1: float(w[i + 3]),
-    }
-}
-
-pub(crate) fn alike_rect(w: &[u64; 20], i: usize, r: Rect) -> bool
-    requires { i ≤ 16 }
-{
-    alike(w[i], r.x0) & alike(w[i + 1], r.y0) & (alike(w[i + 2], r.x1) & alike(w[i + 3], r.y1))
+pub(crate) fn holds(truth: bool, bits: u64) -> bool {
+    bits == u64::from(truth)
 }

@@ -2,16 +2,19 @@
 // docs/VECTORS.md has the format. A line that is no vector is malformed, counts as one that differs, and stops nothing.
 #![tactic(auto)]
 
-mod line; // a line's words, and numbers against words
+mod line; // the words of a line, and numbers against words
 mod affine_ops;
 mod clip_ops;
 mod number_ops;
 mod rect_ops;
 
-use crate::line::{Count, Outcome};
-use std::io::Read;
+use crate::line::{Malformed, Operands, Outcome};
+use std::io;
+use std::io::Write;
 use text_lines::input;
-use text_lines::input::{Input, Space};
+use text_lines::print::Out;
+use text_lines::spelling::within;
+use text_lines::words::Words;
 
 // How many lines there were, and how many of them differ.
 #[derive(Clone, Copy)]
@@ -20,109 +23,54 @@ struct Tally {
     differ: u64,
 }
 
-fn is_known(o: Outcome) -> bool {
-    match o {
-        Outcome::Unknown => false,
-        _ => true,
+// A name, then the words of its operation. A name that none of them has is malformed.
+fn outcome(name: &[u8], words: Words) -> Outcome {
+    let mut operands = Operands { words };
+    let is_same = number_ops::run(name, &mut operands)?;
+    if operands.words.is_empty() {
+        Ok(is_same)
+    } else {
+        Err(Malformed)
     }
 }
 
-// Each group of operations in turn. A name that none of them knows is malformed.
-fn operation(name: &[u8], w: &[u64; 20], n: usize) -> Outcome {
-    let a = number_ops::run(name, w, n);
-    if is_known(a) {
-        return a;
-    }
-    let b = rect_ops::run(name, w, n);
-    if is_known(b) {
-        return b;
-    }
-    let c = affine_ops::run(name, w, n);
-    if is_known(c) {
-        return c;
-    }
-    clip_ops::run(name, w, n)
+// Writes `line 7 differs: rect_union`. No name is longer than 24 bytes.
+fn report(out: &mut Out, number: u64, what: &str, name: &[u8]) -> io::Result<()> {
+    write!(out, "line {number} {what}: ")?;
+    out.write_all(&name[..within(24, name)])?;
+    writeln!(out)
 }
 
-// A name, then the words.
-fn outcome(line: &[u8]) -> Outcome {
-    let end = line::name_end(line);
-    let mut w = [0u64; 20];
-    match line::read(line, end, &mut w) {
-        Count::Words(n) => operation(&line[..end], &w, n),
-        Count::Malformed => Outcome::Malformed,
+impl Tally {
+    // A line, which is counted from 1. A write that fails is passed over, here and below.
+    fn judge(&mut self, out: &mut Out, line: &[u8]) {
+        let mut words = Words::new(line);
+        let name = words.next().unwrap_or(b"");
+        self.lines = self.lines.wrapping_add(1);
+        let what = match outcome(name, words) {
+            Ok(true) => return,
+            Ok(false) => "differs",
+            Err(Malformed) => "is malformed",
+        };
+        self.differ = self.differ.wrapping_add(1);
+        let _ = report(out, self.lines, what, name);
     }
 }
 
-// Writes `line 7 differs: rect_union`, and counts one.
-fn report(line: &[u8], number: u64, what: &[u8]) -> u64 {
-    let end = line::name_end(line);
-    io::write_all(1, b"line ");
-    io::print_decimal(1, number);
-    io::write_all(1, what);
-    io::write_all(1, &line[..end]);
-    io::write_all(1, b"\n");
-    1
-}
-
-// A line, counted from 1: what it adds to those that differ.
-fn judge(line: &[u8], number: u64) -> u64 {
-    match outcome(line) {
-        Outcome::Same => 0,
-        Outcome::Differs => report(line, number, b" differs: "),
-        _ => report(line, number, b" is malformed: "),
-    }
-}
-
-// Runs the line that is held, if it is whole.
-fn run_line(space: &Space, p: Input, c: Tally) -> Tally {
-    if !p.is_line {
-        return c;
-    }
-    let n = input::line_length(space, p);
-    let held = &space[..];
-    let lines = std::num::wrapping_add_u64(c.lines, 1);
-    let more = judge(&held[..n], lines);
-    Tally {
-        lines,
-        differ: std::num::wrapping_add_u64(c.differ, more),
-    }
-}
-
-// The end of the input. A read that failed counts as one that differs.
-fn close(p: Input, c: Tally) -> Tally {
-    if p.is_read {
-        return c;
-    }
-    io::write_all(1, b"the input cannot be read\n");
-    Tally {
-        lines: c.lines,
-        differ: std::num::wrapping_add_u64(c.differ, 1),
-    }
-}
-
-// A proved loop has to end, and nothing says that the input does: the turns are counted down from a number that no run uses up.
-fn read_all<R: Read>(reader: &mut R) -> Tally {
-    let mut block = io::large_buffer();
-    let mut space = [0u8; 512];
-    let mut p = input::start();
-    let mut c = Tally {
+// A read that failed counts as one that differs.
+fn main(rt: HostRuntime) -> io::Result<()> {
+    let mut tally = Tally {
         lines: 0,
         differ: 0,
     };
-    let mut turns = u64::MAX;
-    while turns > 0 && p.is_open {
-        p = input::next(reader, &mut block, &mut space, p);
-        c = run_line(&space, p, c);
-        turns -= 1;
+    let all = input::answer_lines(rt.alloc(), rt.stdin(), rt.stdout(), |out, line| {
+        tally.judge(out, line)
+    })?;
+    if !all {
+        tally.differ = tally.differ.wrapping_add(1);
+        let _ = println!(rt; "the input cannot be read");
     }
-    close(p, c)
-}
-
-fn main(rt: HostRuntime) {
-    let c = read_all(&mut rt.stdin());
-    io::print_decimal(1, c.lines);
-    io::write_all(1, b" vectors, ");
-    io::print_decimal(1, c.differ);
-    io::write_all(1, b" differ\n");
+    let Tally { lines, differ } = tally;
+    let _ = println!(rt; "{lines} vectors, {differ} differ");
+    Ok(())
 }

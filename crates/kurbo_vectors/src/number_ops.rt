@@ -1,16 +1,14 @@
 // Operations on one or two numbers.
-use crate::line::{Outcome, alike, exact, holds, judged};
+use crate::line::{Operands, Outcome, alike, exact, holds};
+use crate::rect_ops;
 use numbers::{abs, is_finite, max, min};
-use text_lines::spelling::{float, place};
 
-pub(crate) fn run(name: &[u8], w: &[u64; 20], n: usize) -> Outcome {
-    let x = float(w[0]);
-    let y = float(w[1]);
-    match place(b"min max abs is_finite", name) {
-        0 => judged(n == 3, alike(w[2], min(x, y))),
-        1 => judged(n == 3, alike(w[2], max(x, y))),
-        2 => judged(n == 2, exact(w[1], abs(x))),
-        3 => judged(n == 2, holds(w[1], is_finite(x))),
-        _ => Outcome::Unknown,
-    }
+pub(crate) fn run(name: &[u8], w: &mut Operands) -> Outcome {
+    Ok(match name {
+        b"min" => alike(min(w.number()?, w.number()?), w.number()?),
+        b"max" => alike(max(w.number()?, w.number()?), w.number()?),
+        b"abs" => exact(abs(w.number()?), w.bits()?),
+        b"is_finite" => holds(is_finite(w.number()?), w.bits()?),
+        _ => return rect_ops::run(name, w),
+    })
 }

@@ -1,57 +1,22 @@
 // Operations on rectangles and insets.
-ghost use Rattle.std.specs.Prelude.{◌≤◌};
+use crate::affine_ops;
+use crate::line::{Operands, Outcome, alike_rect, exact, holds};
 
-use crate::line::{Outcome, alike_rect, exact, holds, judged, point, rect};
-use geometry::insets::Insets;
-use text_lines::spelling::place;
-
-fn insets(w: &[u64; 20], i: usize) -> Insets
-    requires { i ≤ 16 }
-{
-    let r = rect(w, i);
-    Insets {
-        x0: r.x0,
-        y0: r.y0,
-        x1: r.x1,
-        y1: r.y1,
-    }
-}
-
-// Those that give a rectangle.
-fn shapes(name: &[u8], w: &[u64; 20], n: usize) -> Outcome {
-    let r = rect(w, 0);
-    match place(b"rect_abs rect_intersect rect_union rect_add", name) {
-        0 => judged(n == 8, alike_rect(w, 4, r.abs())),
-        1 => judged(n == 12, alike_rect(w, 8, r.intersect(rect(w, 4)))),
-        2 => judged(n == 12, alike_rect(w, 8, r.union(rect(w, 4)))),
-        3 => judged(n == 12, alike_rect(w, 8, r.add(insets(w, 4)))),
-        _ => Outcome::Unknown,
-    }
-}
-
-// Those of one rectangle, or of one and a point.
-fn measures(name: &[u8], w: &[u64; 20], n: usize) -> Outcome {
-    let r = rect(w, 0);
-    match place(
-        b"rect_width rect_height rect_has_area rect_is_finite rect_contains",
-        name,
-    ) {
-        0 => judged(n == 5, exact(w[4], r.width())),
-        1 => judged(n == 5, exact(w[4], r.height())),
-        2 => judged(n == 5, holds(w[4], r.has_area())),
-        3 => judged(n == 5, holds(w[4], r.is_finite())),
-        4 => judged(n == 7, holds(w[6], r.contains(point(w, 4)))),
-        _ => shapes(name, w, n),
-    }
-}
-
-pub(crate) fn run(name: &[u8], w: &[u64; 20], n: usize) -> Outcome {
-    let s = insets(w, 0);
-    match place(b"rect_eq insets_eq insets_is_zero insets_is_finite", name) {
-        0 => judged(n == 9, holds(w[8], rect(w, 0).eq(rect(w, 4)))),
-        1 => judged(n == 9, holds(w[8], s.eq(insets(w, 4)))),
-        2 => judged(n == 5, holds(w[4], s.is_zero())),
-        3 => judged(n == 5, holds(w[4], s.is_finite())),
-        _ => measures(name, w, n),
-    }
+pub(crate) fn run(name: &[u8], w: &mut Operands) -> Outcome {
+    Ok(match name {
+        b"rect_abs" => alike_rect(w.rect()?.abs(), w.rect()?),
+        b"rect_intersect" => alike_rect(w.rect()?.intersect(w.rect()?), w.rect()?),
+        b"rect_union" => alike_rect(w.rect()?.union(w.rect()?), w.rect()?),
+        b"rect_add" => alike_rect(w.rect()? + w.insets()?, w.rect()?),
+        b"rect_width" => exact(w.rect()?.width(), w.bits()?),
+        b"rect_height" => exact(w.rect()?.height(), w.bits()?),
+        b"rect_has_area" => holds(w.rect()?.has_area(), w.bits()?),
+        b"rect_is_finite" => holds(w.rect()?.is_finite(), w.bits()?),
+        b"rect_contains" => holds(w.rect()?.contains(w.point()?), w.bits()?),
+        b"rect_eq" => holds(w.rect()? == w.rect()?, w.bits()?),
+        b"insets_eq" => holds(w.insets()? == w.insets()?, w.bits()?),
+        b"insets_is_zero" => holds(w.insets()?.is_zero(), w.bits()?),
+        b"insets_is_finite" => holds(w.insets()?.is_finite(), w.bits()?),
+        _ => return affine_ops::run(name, w),
+    })
 }

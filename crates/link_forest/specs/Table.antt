@@ -1,6 +1,6 @@
 -- A forest's table: its slots in pre-order and beside them their depths, in front of an array. A node's subtree is its segment, the run of
 -- positions from its own up to the first that is not deeper.
-use Rattle.std.specs.Prelude.{ℕ, suc, ◌+◌, ◌-◌, Bool, true, false, ◌&&◌, List, [], ◌∷◌, ◌++◌, reverse, eqb, ltb, leb, length, get_or, take, drop}
+use Rattle.std.specs.Prelude.{ℕ, suc, ◌+◌, ◌-◌, Bool, true, false, ◌&&◌, List, [], ◌∷◌, ◌++◌, reverse, eqb, ltb, leb, length, get_or, take, drop, Option, None, Some}
 
 -- how many leading depths exceed d
 unfoldable pub run_length : ℕ → List ℕ → ℕ
@@ -31,6 +31,11 @@ less_deep d (x ∷ xs) (e ∷ es) = elim (ltb e d) [ true ↦ x ∷ less_deep e 
 -- the slots above a position, the parent first
 abbrev pub above_at : List ℕ → List ℕ → ℕ → List ℕ
 above_at order depth i = less_deep (get_or depth i 0) (reverse (take i order)) (reverse (take i depth))
+
+-- the first of these, if there is one
+abbrev pub nearest : List ℕ → Option ℕ
+nearest [] = None
+nearest (x ∷ xs) = Some x
 
 -- the slots at the depth k
 unfoldable pub at_depth : ℕ → List ℕ → List ℕ → List ℕ

@@ -1,18 +1,18 @@
 -- What each change of the table leaves, from what its calls leave of the arrays.
-use mathlib.Core.Path.{◌≡◌, sym, ap, ◌∙◌}
+use mathlib.Core.Path.{◌≡◌, refl, ap, ◌∙◌}
 use mathlib.Core.Bool.{true}
-use mathlib.Core.List.{List, [], ◌∷◌, ◌++◌, map}
+use mathlib.Core.List.{List, ◌++◌}
 use Prim.Native.Nat.{ℕ, ◌+◌, ◌-◌, ◌≤◌, ◌<◌}
 use native.Mathlib.Omega.{arith}
 use native.Mathlib.Decide.{dec_le}
 use borrow.Author.Tests.{lt-ltb, le-ltb}
-use lib.ListN.{length, take, drop, get_or, length-map, get_or-append}
+use lib.ListN.{length, take, drop, get_or, length-drop, get_or-append}
 use lib.Seq.{take_at, drop_at, get_or-take, get_or-drop, get_or-append-add, length-take-le}
-use Rattle.link_forest.specs.Table.{seg_end, rebased, depths_from, insert_all, cut_out}
+use Rattle.link_forest.specs.Table.{seg_end, depths_from, insert_all, cut_out}
 use Rattle.link_table.specs.declared.Links.{Links}
-use Rattle.link_table.specs.Links.{between, shifted, after_cut, end_of, splice, add_root, add_last, cut_tree, graft, graft_last, move_last, move_root}
+use Rattle.link_table.specs.Links.{between, after_cut, end_of, cut_tree}
 use Rattle.link_table.proofs.depths.Depths.{depth_small}
-use Rattle.link_table.proofs.Steps.{length_part}
+use Rattle.link_table.proofs.Steps.{length_part, run_short}
 
 -- the test of the shape bounds each depth of the table
 pub depth_fits : (n : ℕ) (ds : List ℕ) → depths_from 0 (take n ds) ≡ true → (j : ℕ) → j < n → get_or ds j 0 ≤ j + 1
@@ -55,52 +55,37 @@ module _ (n i j p : ℕ) (h : i ≤ j) (k : j ≤ n) (q : p < n) (out : i ≤ p 
             ∙ get_or-take i a p 0 lt
       ]
 
--- the segment in the shifted depths
-shifted_part : (i j was is : ℕ) (a : List ℕ) → i ≤ j → j ≤ length a → between i j (shifted i j was is a) ≡ map (rebased was is) (between i j a)
-shifted_part i j was is a h k =
-    let lm : length (map (rebased was is) (between i j a)) ≡ j - i = length-map (between i j a) (rebased was is) ∙ length_part i j a h k in
-    ap (take (j - i)) (drop_at (take i a) (map (rebased was is) (between i j a) ++ drop j a) i (length-take-le i a (omega arith)))
-    ∙ take_at (map (rebased was is) (between i j a)) (drop j a) (j - i) lm
+-- ---- a segment that goes in elsewhere
+pub end_within : (ds : List ℕ) (i : ℕ) → i < length ds → (i < seg_end ds i) × (seg_end ds i ≤ length ds)
+unfolding seg_end
+end_within ds i h = (omega arith, omega (arith, run_short (get_or ds i 0) (drop (i + 1) ds), length-drop (i + 1) ds))
 
--- ---- the changes
-module _ (l : Links) (o ds : List ℕ) where
-  abbrev pub now_is : ℕ → Links
-  now_is n = record { order = o; depth = ds; count = n }
+-- the items that have gone in, read back
+pub inserted_part : (n e k : ℕ) (ys a : List ℕ) → e ≤ length a → length ys ≡ k → between e (e + k) (insert_all n e ys a) ≡ ys
+inserted_part n e k ys a h l =
+    let w : e + k - e ≡ k = omega arith in
+    rw (w, drop_at (take e a) (ys ++ (take (n - e) (drop e a) ++ drop (n + length ys) a)) e (length-take-le e a h))
+    (take_at ys (take (n - e) (drop e a) ++ drop (n + length ys) a) k l)
 
-  pub root_added : (x : ℕ) → o ≡ insert_all l.count l.count (x ∷ []) l.order → ds ≡ insert_all l.count l.count (1 ∷ []) l.depth → now_is (l.count + 1) ≡ add_root l x
-  unfolding add_root splice
-  root_added x u v = rw (u, v)
+-- the depths of a segment are small
+pub part_fits : (n i j : ℕ) (ds : List ℕ) → depths_from 0 (take n ds) ≡ true → j ≤ n → (m : ℕ) → m < j - i → get_or (between i j ds) m 0 ≤ n
+part_fits n i j ds h k m lt = omega (arith, get_or-take (j - i) (drop i ds) m 0 lt, get_or-drop i ds m 0, depth_fits n ds h (i + m) (omega arith))
 
-  pub last_added : (i x e : ℕ) → e ≡ end_of l i → o ≡ insert_all l.count e (x ∷ []) l.order → ds ≡ insert_all l.count e ((get_or l.depth i 0 + 1) ∷ []) l.depth
-      → now_is (l.count + 1) ≡ add_last l i x
-  unfolding add_last splice
-  last_added i x e is u v = rw (u, v, is)
+-- the table without a segment
+module _ (l : Links) (i p : ℕ) (h : i < l.count) (ld : l.count ≤ length l.depth) where
+  pub cut_end : (i < end_of l i) × (end_of l i ≤ l.count)
+  cut_end =
+      let len : length (take l.count l.depth) ≡ l.count = length-take-le l.count l.depth ld in
+      let w = end_within (take l.count l.depth) i (omega arith) in
+      (w.0, omega arith)
 
-  pub tree_cut : (i e : ℕ) → e ≡ end_of l i → o ≡ cut_out l.count i e l.order → ds ≡ cut_out l.count i e l.depth → now_is (i + (l.count - e)) ≡ cut_tree l i
+  pub cut_count : (cut_tree l i).count ≡ i + (l.count - end_of l i)
   unfolding cut_tree
-  tree_cut i e is u v = rw (u, v, is)
+  cut_count = refl
 
--- ---- a move: the segment of the place i is cut out and goes in again at the place f, its node at the depth d
-module _ (l : Links) (i e : ℕ) (is : e ≡ end_of l i) (h : i < e) (k : e ≤ l.count) (lo : l.count ≤ length l.order) (ld : l.count ≤ length l.depth) (o1 d1 : List ℕ)
-    (u1 : o1 ≡ cut_out l.count i e l.order) (v1 : d1 ≡ cut_out l.count i e l.depth) (f d : ℕ) (sd o2 d2 : List ℕ)
-    (sh : sd ≡ shifted i e (get_or l.depth i 0) d l.depth) (u2 : o2 ≡ insert_all (i + (l.count - e)) f (between i e l.order) o1)
-    (v2 : d2 ≡ insert_all (i + (l.count - e)) f (between i e sd) d1) where
-  moved : now_is l o2 d2 l.count ≡ graft (cut_tree l i) f d l i
-  unfolding graft splice cut_tree
-  moved =
-      let w : i + (l.count - e) + length (between i e l.order) ≡ l.count = omega (arith, length_part i e l.order (omega arith) (omega arith)) in
-      rw (u2, v2, sh, shifted_part i e (get_or l.depth i 0) d l.depth (omega arith) (omega arith), u1, v1, ← is, w)
+  pub cut_place : p < l.count → (i ≤ p → end_of l i ≤ p) → after_cut i (end_of l i) p < (cut_tree l i).count
+  cut_place q out = rw cut_count (after_inside l.count i (end_of l i) p (omega (arith, cut_end)) cut_end.1 q out)
 
-  pub moved_root : f ≡ i + (l.count - e) → d ≡ 1 → now_is l o2 d2 l.count ≡ move_root l i
-  unfolding move_root cut_tree
-  moved_root p q =
-      let F : f ≡ (cut_tree l i).count = rw (← is) p in
-      moved ∙ ap (λ (m : ℕ). graft (cut_tree l i) m d l i) F ∙ ap (λ (m : ℕ). graft (cut_tree l i) (cut_tree l i).count m l i) q
-
-  pub moved_last : (to q : ℕ) → to < l.count → (i ≤ to → e ≤ to) → q ≡ after_cut i e to → f ≡ seg_end (take (i + (l.count - e)) d1) q → d ≡ get_or l.depth to 0 + 1
-      → now_is l o2 d2 l.count ≡ move_last l i to
-  unfolding move_last graft_last cut_tree
-  moved_last to q lt out iq p is-d =
-      let F : f ≡ end_of (cut_tree l i) (after_cut i (end_of l i) to) = p ∙ rw (iq, v1, is) in
-      let D : d ≡ get_or (cut_tree l i).depth (after_cut i (end_of l i) to) 0 + 1 = is-d ∙ ap (λ (m : ℕ). m + 1) (sym (rw (← is) (cut_at l.count i e to (omega arith) k lt out l.depth ld))) in
-      moved ∙ ap (λ (m : ℕ). graft (cut_tree l i) m d l i) F ∙ ap (λ (m : ℕ). graft (cut_tree l i) (end_of (cut_tree l i) (after_cut i (end_of l i) to)) m l i) D
+  pub cut_depth : p < l.count → (i ≤ p → end_of l i ≤ p) → get_or (cut_tree l i).depth (after_cut i (end_of l i) p) 0 ≡ get_or l.depth p 0
+  unfolding cut_tree
+  cut_depth q out = cut_at l.count i (end_of l i) p (omega (arith, cut_end)) cut_end.1 q out l.depth ld

@@ -5,9 +5,10 @@ use mathlib.Core.Bool.{true, false}
 use mathlib.Core.List.{List, [], ◌∷◌}
 use Prim.Native.Nat.{ℕ}
 use lib.ListN.{take}
-use Rattle.link_forest.specs.Table.{run_length, seg_end, index_of, last_above, at_depth, post_of, depths_from}
+use Rattle.std.specs.Prelude.{None, Some}
+use Rattle.link_forest.specs.Table.{run_length, seg_end, index_of, last_above, less_deep, at_depth, post_of, depths_from}
 use Rattle.link_table.specs.declared.Links.{Links}
-use Rattle.link_table.specs.Links.{between, after_cut, end_of, splice, add_root, add_last, cut_tree, graft, graft_last, move_last, move_root}
+use Rattle.link_table.specs.Links.{between, parent_at, after_cut, end_of, splice, add_root, add_last, cut_tree, graft, graft_last, move_last, move_root}
 
 pub order : List ℕ
 order = 10 ∷ 11 ∷ 12 ∷ 13 ∷ 14 ∷ 98 ∷ 99 ∷ []
@@ -28,10 +29,13 @@ pub read : (index_of 13 (take 5 order) ≡ 3)
     × (end_of table 4 ≡ 5)
     × (last_above 2 99 (take 3 order) (take 3 depth) ≡ 10)
     × (last_above 1 99 (take 4 order) (take 4 depth) ≡ 99)
+    × (parent_at table 2 ≡ Some 11)
+    × (parent_at table 3 ≡ Some 10)
+    × (parent_at table 4 ≡ None)
     × (at_depth 2 (between 1 4 order) (between 1 4 depth) ≡ 11 ∷ 13 ∷ [])
     × (post_of (take 5 order) (take 5 depth) ≡ 12 ∷ 11 ∷ 13 ∷ 10 ∷ 14 ∷ [])
-unfolding order depth table run_length seg_end index_of last_above at_depth post_of
-read = (refl, refl, refl, refl, refl, refl, refl, refl, refl)
+unfolding order depth table run_length seg_end index_of last_above less_deep at_depth post_of
+read = (refl, refl, refl, refl, refl, refl, refl, refl, refl, refl, refl, refl)
 
 -- the first is 1, none is 0, none is two deeper than the one before
 pub shape : (depths_from 0 (take 5 depth) ≡ true) × (depths_from 0 (2 ∷ []) ≡ false) × (depths_from 0 (1 ∷ 0 ∷ []) ≡ false) × (depths_from 0 (1 ∷ 3 ∷ []) ≡ false)

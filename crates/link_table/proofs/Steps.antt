@@ -1,17 +1,17 @@
--- A turn of `insert_at`'s loop and of each loop of `link_table::segments`, as a law of lists.
+-- A turn of each loop of `link_table::segments`, as a law of lists.
 use mathlib.Core.Path.{◌≡◌, refl, sym, ap, ◌∙◌}
 use mathlib.Core.Bool.{Bool, true, false}
-use mathlib.Core.List.{List, [], ◌∷◌, ◌++◌, map, map-append, append_assoc, append-nil}
+use mathlib.Core.List.{List, [], ◌∷◌, ◌++◌, append_assoc, append-nil}
 use Prim.Native.Nat.{ℕ, zero, suc, ◌+◌, ◌-◌, ◌≤◌, ◌<◌}
 use native.Mathlib.Numerals.{add-one}
 use native.Mathlib.Nat.{le_of_suc-le-suc, not-suc-le-zero, suc-sub-suc, sub-zero}
 use native.Mathlib.Omega.{arith}
 use lib.Dec.{ltb}
-use lib.ListN.{length, take, drop, get_or, set, length-append, length-drop, length-map, take-append-drop}
-use lib.Seq.{paste, paste-zero, paste-suc, take-paste, drop-paste, drop-append-le, drop-append-add, take-suc, get_or-drop, get_or_at, set_at, set_split, take-nil, take-append-add, take-suc-set, drop-set-lt, drop-cons, drop-drop, take_at, take-append-le, length-take-le, get_or-take}
-use Rattle.link_forest.specs.Table.{run_length, seg_end, at_depth, post_of, rebased, insert_all, cut_out}
+use lib.ListN.{length, take, drop, get_or, set, length-append, length-drop, take-append-drop}
+use lib.Seq.{drop-append-le, drop-append-add, take-nil, take-suc-set, drop-set-lt, drop-cons, drop-drop, take_at, take-append-le, length-take-le, get_or-take}
+use Rattle.link_forest.specs.Table.{run_length, seg_end, at_depth, post_of, insert_all}
 use Rattle.link_forest.proofs.Lists.{at_yes, at_no}
-use Rattle.link_table.specs.Links.{between, in_front, shifted}
+use Rattle.link_table.specs.Links.{between, in_front}
 
 -- ---- parts of an array
 pub drop_take : (e n : ℕ) (a : List ℕ) → e ≤ n → drop e (take n a) ≡ between e n a
@@ -59,119 +59,6 @@ level_end k e m xs ds out out₀ g h is rest =
     let w : take m out ≡ g = simp (part_none e xs, append-nil) at is in
     let l : length g ≡ m = rw (← w) (length-take-le m out h) in
     (sym (take-append-drop m out) ∙ rw (w, rest, l), sym l)
-
--- ---- insert_at: the array with one place more, into which the element goes
-pub carry_on : (a : List ℕ) (i x : ℕ) → i < length a → take (i + 1) (set a i x) ++ (get_or a i 0 ∷ drop (i + 1) (set a i x)) ≡ take i a ++ (x ∷ drop i a)
-carry_on a i x h = let lt : i < suc i = omega arith in rw (add-one, take-suc-set, drop-set-lt, drop-cons a i 0) (simp append_assoc)
-
-gap : (e n x : ℕ) (a : List ℕ) → e ≤ n → n < length a
-    → take (suc n) (take e a ++ (x ∷ drop e a)) ++ drop (suc (suc n)) (take e a ++ (x ∷ drop e a)) ≡ insert_all n e (x ∷ []) a
-gap e n x a h k =
-    let l = length-take-le e a (omega arith) in
-    let s : suc n ≡ length (take e a) + suc (n - e) = omega arith in
-    let t : suc (suc n) ≡ length (take e a) + suc (suc (n - e)) = omega arith in
-    let u : take (suc n) (take e a ++ (x ∷ drop e a)) ≡ take e a ++ (x ∷ take (n - e) (drop e a)) =
-    ap (λ (m : ℕ). take m (take e a ++ (x ∷ drop e a))) s ∙ take-append-add (take e a) (x ∷ drop e a) (suc (n - e)) in
-    let w : e + suc (n - e) ≡ n + 1 = omega arith in
-    let v : drop (suc (suc n)) (take e a ++ (x ∷ drop e a)) ≡ drop (n + 1) a =
-    ap (λ (m : ℕ). drop m (take e a ++ (x ∷ drop e a))) t ∙ drop-append-add (take e a) (x ∷ drop e a) (suc (suc (n - e))) ∙ drop-drop (suc (n - e)) e a ∙ ap (λ (m : ℕ). drop m a) w in
-    rw (u, v) (append_assoc (take e a) (x ∷ take (n - e) (drop e a)) (drop (n + 1) a))
-
-pub carry_end : (a a₀ : List ℕ) (n e c x : ℕ) → e ≤ n → n < length a → n < length a₀ → take n a ++ (c ∷ drop n a) ≡ take e a₀ ++ (x ∷ drop e a₀) → set a n c ≡ insert_all n e (x ∷ []) a₀
-carry_end a a₀ n e c x h k m inv =
-    let z : n - n ≡ 0 = omega arith in
-    let w : insert_all n n (c ∷ []) a ≡ take n a ++ (c ∷ drop (suc n) a) = rw (z, add-one) in
-    set_split a n c k
-    ∙ sym w
-    ∙ sym (gap n n c a (omega arith) k)
-    ∙ ap (λ (g : List ℕ). take (suc n) g ++ drop (suc (suc n)) g) inv
-    ∙ gap e n x a₀ h m
-
--- ---- copy_over
-pub copy_on : (d : List ℕ) (at : ℕ) (s : List ℕ) (from j : ℕ) → at + j < length d → from + j < length s
-    → set (paste d at (drop from s) j) (at + j) (get_or s (from + j) 0) ≡ paste d at (drop from s) (j + 1)
-copy_on d at s from j h k =
-    let lt : j < length (drop from s) = rw length-drop (omega arith) in
-    rw (← get_or-drop from s j 0, add-one) (paste-suc d at (drop from s) j 0 h lt)
-
--- ---- insert_all: the elements over those at e, then what stood from e on, behind them
-pub inserted_all : (n e k from : ℕ) (a s a1 a2 : List ℕ) → e ≤ n → n + k ≤ length a → from + k ≤ length s
-    → a1 ≡ paste a e (drop from s) k → a2 ≡ paste a1 (e + k) (drop e a) (n - e) → a2 ≡ insert_all n e (take k (drop from s)) a
-inserted_all n e k from a s a1 a2 h nk fk is1 is2 =
-    let Y = take k (drop from s) in
-    let kd : k ≤ length (drop from s) = rw length-drop (omega arith) in
-    let l : length (take k (drop from s)) ≡ k = length-take-le k (drop from s) kd in
-    let t1 : take (e + k) a1 ≡ take e a ++ take k (drop from s) = rw is1 (take-paste a e (drop from s) k (omega arith) kd) in
-    let d1 : drop (e + k) a1 ≡ drop (e + k) a = rw is1 (drop-paste a e (drop from s) k (omega arith) kd) in
-    let w : e + k + (n - e) ≡ n + k = omega arith in
-    let t2 : drop (e + k + (n - e)) a1 ≡ drop (n + k) a = sym (drop-drop (n - e) (e + k) a1) ∙ ap (drop (n - e)) d1 ∙ drop-drop (n - e) (e + k) a ∙ ap (λ (m : ℕ). drop m a) w in
-    is2 ∙ rw (t1, t2, l) (simp append_assoc)
-
--- ---- cut_out: as copy_over, within one array
-paste_above : (d : List ℕ) (at : ℕ) (s : List ℕ) (k m : ℕ) → at ≤ length d → k ≤ length s → at + k ≤ m → get_or (paste d at s k) m 0 ≡ get_or d m 0
-paste_above d at s k m h l b =
-    let w : at + k + (m - (at + k)) ≡ m = omega arith in
-    ap (λ (p : ℕ). get_or (paste d at s k) p 0) (sym w)
-    ∙ sym (get_or-drop (at + k) (paste d at s k) (m - (at + k)) 0)
-    ∙ ap (λ (p : List ℕ). get_or p (m - (at + k)) 0) (drop-paste d at s k h l)
-    ∙ get_or-drop (at + k) d (m - (at + k)) 0
-    ∙ ap (λ (p : ℕ). get_or d p 0) w
-
-close_on : (a : List ℕ) (i j t : ℕ) → i ≤ j → j + t < length a
-    → set (paste a i (drop j a) t) (i + t) (get_or (paste a i (drop j a) t) (j + t) 0) ≡ paste a i (drop j a) (t + 1)
-close_on a i j t h k =
-    let l : t ≤ length (drop j a) = rw length-drop (omega arith) in
-    rw (paste_above a i (drop j a) t (j + t) (omega arith) l (omega arith)) (copy_on a i a j t (omega arith) k)
-
-pub close_turn : (a₀ a : List ℕ) (i j to from : ℕ) → i ≤ j → j ≤ from → from < length a₀ → to ≡ i + (from - j) → a ≡ paste a₀ i (drop j a₀) (from - j)
-    → set a to (get_or a from 0) ≡ paste a₀ i (drop j a₀) (from + 1 - j)
-close_turn a₀ a i j to from h k l is inv =
-    let w : j + (from - j) ≡ from = omega arith in
-    let v : from + 1 - j ≡ from - j + 1 = omega arith in
-    rw (is, v, inv) (rw w at (close_on a₀ i j (from - j) h (omega arith)))
-
-pub close_none : (a : List ℕ) (i j : ℕ) → a ≡ paste a i (drop j a) (j - j)
-close_none a i j = let z : j - j ≡ 0 = omega arith in rw z (paste-zero a i (drop j a))
-
-pub close_end : (a : List ℕ) (n i j : ℕ) → paste a i (drop j a) (n - j) ≡ cut_out n i j a
-close_end a n i j = append_assoc (take i a) (take (n - j) (drop j a)) (drop (i + (n - j)) a)
-
--- ---- shift
-part_snoc : (i j : ℕ) (a : List ℕ) → i ≤ j → j < length a → between i (j + 1) a ≡ between i j a ++ (get_or a j 0 ∷ [])
-part_snoc i j a h k =
-    let w : j + 1 - i ≡ suc (j - i) = omega arith in
-    let v : i + (j - i) ≡ j = omega arith in
-    let l : j - i < length (drop i a) = rw length-drop (omega arith) in
-    let u : get_or (drop i a) (j - i) 0 ≡ get_or a j 0 = get_or-drop i a (j - i) 0 ∙ ap (λ (p : ℕ). get_or a p 0) v in
-    rw (w, take-suc (drop i a) (j - i) 0 l, u)
-
-module _ (from i was is : ℕ) (a : List ℕ) (h : from ≤ i) (k : i < length a) where
-  passed : length (take from a ++ map (rebased was is) (between from i a)) ≡ i
-  passed =
-      length-append (take from a) (map (rebased was is) (between from i a))
-      ∙ omega (arith, length-take-le from a (omega arith), length-map (between from i a) (rebased was is), length_part from i a h (omega arith))
-
-  grouped : (j : ℕ) → shifted from j was is a ≡ (take from a ++ map (rebased was is) (between from j a)) ++ drop j a
-  grouped j = sym (append_assoc (take from a) (map (rebased was is) (between from j a)) (drop j a))
-
-  pub shifted_at : get_or (shifted from i was is a) i 0 ≡ get_or a i 0
-  shifted_at =
-      ap (λ (p : List ℕ). get_or p i 0) (grouped i)
-      ∙ rw (drop-cons a i 0 k) (get_or_at (take from a ++ map (rebased was is) (between from i a)) (get_or a i 0) (drop (suc i) a) 0 i passed)
-
-  pub shifted_on : set (shifted from i was is a) i (rebased was is (get_or a i 0)) ≡ shifted from (i + 1) was is a
-  shifted_on =
-      ap (λ (p : List ℕ). set p i (rebased was is (get_or a i 0))) (grouped i)
-      ∙ rw (
-        drop-cons a i 0 k,
-        set_at (take from a ++ map (rebased was is) (between from i a)) (get_or a i 0) (drop (suc i) a) (rebased was is (get_or a i 0)) i passed,
-        part_snoc from i a h k,
-        add-one,
-      )
-      (simp (map-append, append_assoc))
-
-pub shifted_none : (from was is : ℕ) (a : List ℕ) → a ≡ shifted from from was is a
-shifted_none from was is a = sym (rw (part_none from a) (take-append-drop from a))
 
 -- ---- post_order
 pub run_short : (d : ℕ) (ds : List ℕ) → run_length d ds ≤ length ds

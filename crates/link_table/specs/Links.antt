@@ -1,6 +1,6 @@
 -- The table of links, and what each change leaves of it: of whole arrays, so that what stands behind the table's positions is settled too.
-use Rattle.std.specs.Prelude.{ℕ, ◌+◌, ◌-◌, true, false, List, [], ◌∷◌, ◌++◌, map, ltb, length, get_or, take, drop}
-use Rattle.link_forest.specs.Table.{seg_end, rebased, insert_all, cut_out}
+use Rattle.std.specs.Prelude.{ℕ, ◌+◌, ◌-◌, ◌≡◌, Bool, true, false, List, [], ◌∷◌, ◌++◌, map, ltb, length, get_or, take, drop, Option}
+use Rattle.link_forest.specs.Table.{seg_end, index_of, above_at, nearest, at_depth, post_of, depths_from, rebased, insert_all, cut_out}
 use Rattle.link_table.specs.declared.Links.{Links}
 
 -- ---- arrays
@@ -13,10 +13,6 @@ between i j a = take (j - i) (drop i a)
 abbrev pub in_front : List ℕ → List ℕ → List ℕ
 in_front xs a = xs ++ drop (length xs) a
 
--- the depths of the positions from i up to j are those below a node that lay at `was` and lies at `is` now
-abbrev pub shifted : ℕ → ℕ → ℕ → ℕ → List ℕ → List ℕ
-shifted i j was is a = take i a ++ (map (rebased was is) (between i j a) ++ drop j a)
-
 -- where the position p lies when the positions from i up to j, of which it is none, are out
 unfoldable pub after_cut : ℕ → ℕ → ℕ → ℕ
 after_cut i j p = elim (ltb p i) [ true ↦ p | false ↦ p - (j - i) ]
@@ -26,6 +22,30 @@ after_cut i j p = elim (ltb p i) [ true ↦ p | false ↦ p - (j - i) ]
 -- where the segment of the position i ends
 abbrev pub end_of : Links → ℕ → ℕ
 end_of l i = seg_end (take l.count l.depth) i
+
+-- the first position of the slot x, or the count
+abbrev pub position_of : Links → ℕ → ℕ
+position_of l x = index_of x (take l.count l.order)
+
+-- the slot x is in the table
+abbrev pub contains : Links → ℕ → Bool
+contains l x = ltb (position_of l x) l.count
+
+-- the slot right above the position i, if there is one
+abbrev pub parent_at : Links → ℕ → Option ℕ
+parent_at l i = nearest (above_at l.order l.depth i)
+
+-- the slots at the depth k among the positions from i up to j, in order
+abbrev pub slots_at : Links → ℕ → ℕ → ℕ → List ℕ
+slots_at l i j k = at_depth k (between i j l.order) (between i j l.depth)
+
+-- the slots of the positions from i up to j, children first
+abbrev pub post_order : Links → ℕ → ℕ → List ℕ
+post_order l i j = post_of (between i j l.order) (between i j l.depth)
+
+-- the depths of the table belong to some forest
+abbrev pub Shaped : Links → Type 0
+Shaped l = depths_from 0 (take l.count l.depth) ≡ true
 
 -- the slots xs, at the depths ds, go in at the position e
 unfoldable pub splice : Links → ℕ → List ℕ → List ℕ → Links

@@ -1,40 +1,40 @@
 // Depths in the table of links (link_forest, specs/Table.antt): the slot right above a position, and the test of the shape.
-ghost use Rattle.std.specs.Prelude.{◌≡◌, ◌≤◌, ◌<◌, length, take, get_or};
-ghost use Rattle.link_forest.specs.Table.{last_above, depths_from};
+ghost use Rattle.std.specs.Prelude.{◌≡◌, ◌≤◌, ◌<◌, take};
+ghost use Rattle.link_forest.specs.Table.{depths_from};
+ghost use Rattle.link_table.specs.Links as spec;
 
-// Inner: the slot right above the position `at`, or `root`.
-pub fn parent_at<'a>(order: &'a [u32; 256], depth: &'a [u32; 256], at: usize, root: u32) -> u32
-    requires { (at < 256) × (length order.now ≡ 256) × (length depth.now ≡ 256) }
-    ensures { result ≡ last_above (get_or depth.now at 0) root (take at order.now) (take at depth.now) }
-{
-    let d = depth[at];
-    let mut j = at;
-    while 0 < j {
-        j -= 1;
-        if depth[j] < d {
-            return order[j];
-        }
-    }
-    root
-}
+use crate::Links;
 
-// Inner: the test of the shape: the first n depths belong to some forest.
-pub fn depths_ok(depth: &[u32; 256], n: usize) -> bool
-    requires { (n ≤ 256) × (length depth.now ≡ 256) }
-    ensures { result ≡ depths_from 0 (take n depth.now) }
-{
-    let mut b = 0;
-    let mut i = 0;
-    while i < n {
-        let d = depth[i];
-        if d < 1 {
-            return false;
+impl Links {
+    // Inner: the slot right above the position `at`, if it is no root's.
+    pub fn parent_at(&self, at: usize) -> Option<u32>
+        requires { at < 256 }
+        ensures { result ≡ spec.parent_at self.now at }
+    {
+        let depth = self.depth[at];
+        for j in (0..at).rev() {
+            if self.depth[j] < depth {
+                return Some(self.order[j]);
+            }
         }
-        if b + 1 < d {
-            return false;
-        }
-        b = d;
-        i += 1;
+        None
     }
-    true
+
+    // Inner: whether the depths belong to some forest.
+    pub fn is_forest(&self) -> bool
+        requires { self.now.count ≤ 256 }
+        ensures { result ≡ depths_from 0 (take self.now.count self.now.depth) }
+    {
+        let mut above = 0;
+        for depth in &self.depth[..self.count] {
+            if *depth < 1 {
+                return false;
+            }
+            if above + 1 < *depth {
+                return false;
+            }
+            above = *depth;
+        }
+        true
+    }
 }

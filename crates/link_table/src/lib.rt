@@ -1,20 +1,21 @@
 // The links of a box tree of at most 256 nodes (tree.rs: `parent`, `children`): a table in pre-order, the slots and beside them their depths,
-// in front of two arrays (link_forest, specs/Table.antt). Contracts speak of whole arrays, so that what stands behind the table is settled too.
+// in front of two arrays (link_forest, specs/Table.antt). Contracts speak of the whole record, so that what stands behind the table is settled
+// too.
 #![tactic(auto)]
 
+pub mod arrays; // one flat array
 pub mod depths; // the slot right above, and the test of the shape
 pub mod moves; // a subtree goes out, or moves
 pub mod positions; // where a slot stands, and where its segment ends
-pub mod segments; // parts of the arrays
+pub mod segments; // what is read of a segment
 
-ghost use Rattle.std.specs.Prelude.{◌≡◌, true, ◌∷◌, [], ◌≤◌, ◌<◌, length, take};
-ghost use Rattle.link_forest.specs.Table.{depths_from, insert_all};
+ghost use Rattle.std.specs.Prelude.{◌≡◌, ◌∷◌, [], ◌≤◌, ◌<◌};
 ghost use Rattle.link_table.specs.Links as spec;
 
-pub use crate::depths::{depths_ok, parent_at};
-pub use crate::positions::{position, segment_end};
+pub use crate::arrays::insert_at;
 
-// `count` slots in pre-order, and how deep each lies: a root at 1.
+// `count` slots in pre-order, and how deep each lies: a root at 1. No heap: two arrays of the tree's fixed size. That the count is at most 256 and
+// that the depths belong to a forest is no invariant: a tree that is made by hand may break it, and the test of a sound tree reads such a table.
 #[derive(Clone, Copy)]
 pub struct Links {
     pub order: [u32; 256],
@@ -22,48 +23,33 @@ pub struct Links {
     pub count: usize,
 }
 
-// ---- a change of one array
-
-// Inner: x goes in at the position e of the first n.
-pub fn insert_at(a: &mut [u32; 256], n: usize, e: usize, x: u32)
-    requires { (e ≤ n) × (n < 256) × (length a.old ≡ 256) }
-    ensures { (length a.new ≡ 256) × (a.new ≡ insert_all n e (x ∷ []) a.old) }
-{
-    let mut carry = x;
-    let mut i = e;
-    while i < n {
-        let t = a[i];
-        a[i] = carry;
-        carry = t;
-        i += 1;
+impl Links {
+    // Inner: the slot goes in at the position `at`, to lie at the depth `depth`.
+    #[tactic(auto, unfolding(crate::specs::Links::splice))]
+    pub fn insert(&mut self, at: usize, slot: u32, depth: u32)
+        requires { (at ≤ self.old.count) × (self.old.count < 256) }
+        ensures { self.new ≡ spec.splice self.old at (slot ∷ []) (depth ∷ []) }
+    {
+        insert_at(&mut self.order, self.count, at, slot);
+        insert_at(&mut self.depth, self.count, at, depth);
+        self.count += 1;
     }
-    a[n] = carry;
-}
 
-// ---- the table by value
+    // Inner: the slot as the last root.
+    #[tactic(auto, unfolding(crate::specs::Links::add_root))]
+    pub fn add_root(&mut self, slot: u32)
+        requires { self.old.count < 256 }
+        ensures { self.new ≡ spec.add_root self.old slot }
+    {
+        self.insert(self.count, slot, 1);
+    }
 
-// Inner: x as the last root.
-pub fn add_root(mut l: Links, x: u32) -> Links
-    requires { l.count < 256 }
-    ensures { result ≡ spec.add_root l x }
-{
-    let n = l.count;
-    insert_at(&mut l.order, n, n, x);
-    insert_at(&mut l.depth, n, n, 1);
-    l.count = n + 1;
-    l
-}
-
-// Inner: x as the last child of the node at the position `at`.
-pub fn add_last(mut l: Links, at: usize, x: u32) -> Links
-    requires { (at < l.count) × (l.count < 256) × (depths_from 0 (take l.count l.depth) ≡ true) }
-    ensures { result ≡ spec.add_last l at x }
-{
-    let n = l.count;
-    let d = l.depth[at];
-    let e = segment_end(&l.depth, n, at);
-    insert_at(&mut l.order, n, e, x);
-    insert_at(&mut l.depth, n, e, d + 1);
-    l.count = n + 1;
-    l
+    // Inner: the slot as the last child of the node at the position `at`.
+    #[tactic(auto, using(crate::proofs::Changes::depth_fits), unfolding(crate::specs::Links::add_last))]
+    pub fn add_last(&mut self, at: usize, slot: u32)
+        requires { (at < self.old.count) × (self.old.count < 256) × spec.Shaped self.old }
+        ensures { self.new ≡ spec.add_last self.old at slot }
+    {
+        self.insert(self.segment_end(at), slot, self.depth[at] + 1);
+    }
 }

@@ -1,72 +1,76 @@
-// The table of links by value: a node with what is below it goes out, or moves (tree.rs, the link functions).
-ghost use Rattle.std.specs.Prelude.{◌≡◌, true, ◌≤◌, ◌<◌, take};
-ghost use Rattle.link_forest.specs.Table.{depths_from};
+// A node with what is below it goes out of the table of links, or moves (tree.rs, the link functions).
+ghost use Rattle.std.specs.Prelude.{◌≡◌, ◌+◌, ◌-◌, ◌≤◌, ◌<◌};
 ghost use Rattle.link_table.specs.Links as spec;
 
-use crate::segments::{cut_out, insert_all, shift};
-use crate::{Links, segment_end};
+use crate::{Links, arrays};
 
-// Inner: without the node at the position `at` and what is below it.
-pub fn cut_tree(mut l: Links, at: usize) -> Links
-    requires { (at < l.count) × (l.count ≤ 256) }
-    ensures { result ≡ spec.cut_tree l at }
-{
-    let n = l.count;
-    let e = segment_end(&l.depth, n, at);
-    cut_out(&mut l.order, n, at, e);
-    cut_out(&mut l.depth, n, at, e);
-    l.count = at + (n - e);
-    l
+impl Links {
+    // Inner: without the node at the position `at` and what is below it.
+    #[tactic(auto, unfolding(crate::specs::Links::cut_tree))]
+    pub fn cut_tree(&mut self, at: usize)
+        requires { (at < self.old.count) × (self.old.count ≤ 256) }
+        ensures { self.new ≡ spec.cut_tree self.old at }
+    {
+        let end = self.segment_end(at);
+        arrays::cut_out(&mut self.order, self.count, at, end);
+        arrays::cut_out(&mut self.depth, self.count, at, end);
+        self.count = at + (self.count - end);
+    }
+
+    // The node of `from` at the position `at`, with what is below it, goes in at the position `to`, to lie at the depth `depth`.
+    #[tactic(auto, unfolding(crate::specs::Links::graft, crate::specs::Links::splice))]
+    fn graft(&mut self, to: usize, depth: u32, from: &Links, at: usize)
+        requires { (to ≤ self.old.count) × (at < from.now.count) × (from.now.count ≤ 256)
+            × (self.old.count + (spec.end_of from.now at - at) ≤ 256)
+            × spec.Shaped from.now
+            × (depth ≤ 257) }
+        ensures { self.new ≡ spec.graft self.old to depth from.now at }
+    {
+        let end = from.segment_end(at);
+        let count = end - at;
+        arrays::insert_all(&mut self.order, self.count, to, &from.order[at..end]);
+        arrays::insert_all(&mut self.depth, self.count, to, &from.depth[at..end]);
+        arrays::rebase(&mut self.depth[to..to + count], from.depth[at], depth);
+        self.count += count;
+    }
+
+    // Inner: the node at the position `at`, with what is below it, as the last child of the node at the position `to`, which is none of these.
+    #[tactic(auto, unfolding(crate::specs::Links::move_last, crate::specs::Links::graft_last))]
+    pub fn move_last(&mut self, at: usize, to: usize)
+        requires { (at < self.old.count)
+            × (to < self.old.count)
+            × (self.old.count ≤ 256)
+            × (at ≤ to → spec.end_of self.old at ≤ to)
+            × spec.Shaped self.old }
+        ensures { self.new ≡ spec.move_last self.old at to }
+    {
+        let before = *self;
+        let to = after_cut(at, self.segment_end(at), to);
+        self.cut_tree(at);
+        self.graft(self.segment_end(to), self.depth[to] + 1, &before, at);
+    }
+
+    // Inner: the node at the position `at`, with what is below it, as the last root.
+    #[tactic(auto, unfolding(crate::specs::Links::move_root))]
+    pub fn move_root(&mut self, at: usize)
+        requires { (at < self.old.count) × (self.old.count ≤ 256) × spec.Shaped self.old }
+        ensures { self.new ≡ spec.move_root self.old at }
+    {
+        let before = *self;
+        self.cut_tree(at);
+        self.graft(self.count, 1, &before, at);
+    }
 }
 
-// Where the position p lies when the positions from `at` up to e are out.
-fn after_cut(at: usize, e: usize, p: usize) -> usize
-    requires { (at ≤ e) × (at ≤ p → e ≤ p) }
-    ensures { result ≡ spec.after_cut at e p }
+// Where a position lies when those from `at` up to `end` are out.
+#[tactic(auto, unfolding(crate::specs::Links::after_cut))]
+fn after_cut(at: usize, end: usize, position: usize) -> usize
+    requires { (at ≤ end) × (at ≤ position → end ≤ position) }
+    ensures { result ≡ spec.after_cut at end position }
 {
-    if p < at { p } else { p - (e - at) }
-}
-
-// Inner: the node at the position `at`, with what is below it, as the last child of the node at the position `to`, which is none of these.
-pub fn move_last(mut l: Links, at: usize, to: usize) -> Links
-    requires { (at < l.count) × (to < l.count) × (l.count ≤ 256)
-        × (at ≤ to → spec.end_of l at ≤ to) × (depths_from 0 (take l.count l.depth) ≡ true) }
-    ensures { result ≡ spec.move_last l at to }
-{
-    let n = l.count;
-    let e = segment_end(&l.depth, n, at);
-    let order = l.order;
-    let mut depth = l.depth;
-    let was = depth[at];
-    let above = depth[to];
-    shift(&mut depth, at, e, was, above + 1);
-    cut_out(&mut l.order, n, at, e);
-    cut_out(&mut l.depth, n, at, e);
-    let m = at + (n - e);
-    let p = after_cut(at, e, to);
-    let f = segment_end(&l.depth, m, p);
-    insert_all(&mut l.order, m, f, &order, at, e - at);
-    insert_all(&mut l.depth, m, f, &depth, at, e - at);
-    l.count = n;
-    l
-}
-
-// Inner: the node at the position `at`, with what is below it, as the last root.
-pub fn move_root(mut l: Links, at: usize) -> Links
-    requires { (at < l.count) × (l.count ≤ 256) × (depths_from 0 (take l.count l.depth) ≡ true) }
-    ensures { result ≡ spec.move_root l at }
-{
-    let n = l.count;
-    let e = segment_end(&l.depth, n, at);
-    let order = l.order;
-    let mut depth = l.depth;
-    let was = depth[at];
-    shift(&mut depth, at, e, was, 1);
-    cut_out(&mut l.order, n, at, e);
-    cut_out(&mut l.depth, n, at, e);
-    let m = at + (n - e);
-    insert_all(&mut l.order, m, m, &order, at, e - at);
-    insert_all(&mut l.depth, m, m, &depth, at, e - at);
-    l.count = n;
-    l
+    if position < at {
+        position
+    } else {
+        position - (end - at)
+    }
 }

@@ -1,34 +1,31 @@
 // Places in the table of links (link_forest, specs/Table.antt): where a slot stands, and where its segment ends.
-ghost use Rattle.std.specs.Prelude.{◌≡◌, ◌≤◌, ◌<◌, length, take};
-ghost use Rattle.link_forest.specs.Table.{seg_end, index_of};
+ghost use Rattle.std.specs.Prelude.{◌≡◌, ◌≤◌, ◌<◌};
+ghost use Rattle.link_table.specs.Links as spec;
 
-// Inner: the first position of x among the first n, or n.
-pub fn position(order: &[u32; 256], n: usize, x: u32) -> usize
-    requires { (n ≤ 256) × (length order.now ≡ 256) }
-    ensures { (result ≤ n) × (result ≡ index_of x (take n order.now)) }
-{
-    let mut i = 0;
-    while i < n {
-        if order[i] == x {
-            return i;
-        }
-        i += 1;
-    }
-    i
-}
+use crate::{Links, arrays};
 
-// Inner: where the segment of the position `at` ends.
-pub fn segment_end(depth: &[u32; 256], n: usize, at: usize) -> usize
-    requires { (at < n) × (n ≤ 256) × (length depth.now ≡ 256) }
-    ensures { (at < result) × (result ≤ n) × (result ≡ seg_end (take n depth.now) at) }
-{
-    let d = depth[at];
-    let mut e = at + 1;
-    while e < n {
-        if depth[e] <= d {
-            return e;
-        }
-        e += 1;
+impl Links {
+    // Inner: the first position of the slot, or the count where it has none: callers but one know that it is there, so an Option would be no plainer.
+    pub fn position(&self, slot: u32) -> usize
+        requires { self.now.count ≤ 256 }
+        ensures { (result ≤ self.now.count) × (result ≡ spec.position_of self.now slot) }
+    {
+        arrays::position(&self.order[..self.count], slot).unwrap_or(self.count)
     }
-    e
+
+    // Inner: whether the slot is in the table.
+    pub fn contains(&self, slot: u32) -> bool
+        requires { self.now.count ≤ 256 }
+        ensures { result ≡ spec.contains self.now slot }
+    {
+        self.position(slot) < self.count
+    }
+
+    // Inner: where the segment of the position `at` ends: the node, and what is below it.
+    pub fn segment_end(&self, at: usize) -> usize
+        requires { (at < self.now.count) × (self.now.count ≤ 256) }
+        ensures { (at < result) × (result ≤ self.now.count) × (result ≡ spec.end_of self.now at) }
+    {
+        arrays::segment_end(&self.depth[..self.count], at)
+    }
 }

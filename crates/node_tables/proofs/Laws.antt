@@ -11,8 +11,8 @@ use Rattle.geometry.specs.declared.insets.Insets.{Insets}
 use Rattle.geometry.specs.declared.affine.Affine.{Affine}
 use Rattle.geometry_clips.specs.declared.clip.Clip.{Clip}
 use Rattle.geometry_clips.specs.declared.clip.Clip.TheVariants as is
-use Rattle.geometry_clips.specs.declared.clip_rect.ClipRect.{ClipRect}
-use Rattle.geometry_clips.specs.declared.clip_rect.ClipRect.TheVariants as of
+use Rattle.std.specs.declared.option.Option.{Option}
+use Rattle.std.specs.declared.option.Option.TheVariants as of
 use Rattle.geometry_clips.specs.Clips.{clip_rect, clip_radii}
 use Rattle.index_types.proofs.flat_tables.Segments.{same, other}
 use Rattle.node_tables.specs.Tables.{rect_of, of_rect, rect_at, put_rect, insets_of, of_insets, insets_at, put_insets, affine_of, of_affine, affine_at, put_affine, square_of, rounded_of, clip_at, kind_of, edges_from, edges_of, of_clip, put_clip, clip_rect_at, is_there, put_clip_rect}
@@ -68,17 +68,17 @@ module _ (l : List Float) (i : ℕ) where
   unfolding put_clip
   clip_length c = length-sets l (8 * i) (of_clip (edges_of c) (clip_radii c))
 
-  pub clip_rect_same : (c : ClipRect) → 4 * i + 4 ≤ length l → clip_rect_at (is_there c) (put_clip_rect l i c) i ≡ c
+  pub clip_rect_same : (c : Option Rect) → 4 * i + 4 ≤ length l → clip_rect_at (is_there c) (put_clip_rect l i c) i ≡ c
   unfolding clip_rect_at is_there put_clip_rect
   clip_rect_same of.None h = refl
   clip_rect_same (of.Some r) h = ap of.Some (rect_same r h)
 
-  pub clip_rect_other : (c : ClipRect) (b : Bool) (j : ℕ) → (j ≡ i → ⊥) → clip_rect_at b (put_clip_rect l i c) j ≡ clip_rect_at b l j
+  pub clip_rect_other : (c : Option Rect) (b : Bool) (j : ℕ) → (j ≡ i → ⊥) → clip_rect_at b (put_clip_rect l i c) j ≡ clip_rect_at b l j
   unfolding clip_rect_at put_clip_rect
   clip_rect_other of.None b j n = refl
   clip_rect_other (of.Some r) b j n = rw (rect_other r j n)
 
-  pub clip_rect_length : (c : ClipRect) → length (put_clip_rect l i c) ≡ length l
+  pub clip_rect_length : (c : Option Rect) → length (put_clip_rect l i c) ≡ length l
   unfolding put_clip_rect
   clip_rect_length of.None = refl
   clip_rect_length (of.Some r) = rect_length r

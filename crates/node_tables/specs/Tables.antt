@@ -9,8 +9,8 @@ use Rattle.geometry.specs.declared.affine.Affine.{Affine}
 use Rattle.geometry_clips.specs.declared.rounded_rect_radii.RoundedRectRadii.{RoundedRectRadii}
 use Rattle.geometry_clips.specs.declared.clip.Clip.{Clip}
 use Rattle.geometry_clips.specs.declared.clip.Clip.TheVariants as is
-use Rattle.geometry_clips.specs.declared.clip_rect.ClipRect.{ClipRect}
-use Rattle.geometry_clips.specs.declared.clip_rect.ClipRect.TheVariants as of
+use Rattle.std.specs.declared.option.Option.{Option}
+use Rattle.std.specs.declared.option.Option.TheVariants as of
 use Rattle.geometry_clips.specs.Clips.{clip_rect, clip_radii}
 use Rattle.index_types.specs.flat_tables.Stride.{segment, store}
 
@@ -72,7 +72,7 @@ kind_of (is.Square x0 y0 x1 y1) = 1
 kind_of (is.Rounded x0 y0 x1 y1 tl tr br bl) = 2
 
 -- the rectangle, or four zeros
-unfoldable pub edges_from : ClipRect → Rect
+unfoldable pub edges_from : Option Rect → Rect
 edges_from of.None = rect zero zero zero zero
 edges_from (of.Some r) = r
 
@@ -88,13 +88,13 @@ put_clip l i c = store 8 l i (of_clip (edges_of c) (clip_radii c))
 
 -- ---- world clips: a flag and a rectangle, which stays as it was where there is none
 
-unfoldable pub clip_rect_at : Bool → List Float → ℕ → ClipRect
+unfoldable pub clip_rect_at : Bool → List Float → ℕ → Option Rect
 clip_rect_at there l i = cond there (of.Some (rect_at l i)) of.None
 
-unfoldable pub is_there : ClipRect → Bool
+unfoldable pub is_there : Option Rect → Bool
 is_there of.None = false
 is_there (of.Some r) = true
 
-unfoldable pub put_clip_rect : List Float → ℕ → ClipRect → List Float
+unfoldable pub put_clip_rect : List Float → ℕ → Option Rect → List Float
 put_clip_rect l i of.None = l
 put_clip_rect l i (of.Some r) = put_rect l i r

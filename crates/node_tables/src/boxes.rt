@@ -1,83 +1,74 @@
-// Rectangles, insets and transforms of 256 nodes in flat tables of numbers: a rectangle or insets four f64 in a row, a transform six.
-ghost use Rattle.std.specs.Prelude.{◌≡◌, ◌<◌};
+// Rectangles, insets and transforms of 256 nodes in flat tables of numbers: a rectangle or insets four f64 in a row, a transform six. Rows of
+// any width are read and stored by `rows`; what is left here is which field each number is.
+ghost use Rattle.std.specs.Prelude.{◌≡◌, ◌+◌, ◌*◌, ◌<◌, ◌≤◌, length};
 ghost use Rattle.node_tables.specs.Tables as spec;
 
+use crate::rows::{put_row, row_at};
 use geometry::affine::Affine;
 use geometry::insets::Insets;
 use geometry::rect::Rect;
-use index_types::Aabb2D;
-use index_types::flat_tables::{box_in, put_box_in};
+
+// Inner: a rectangle of lent room, which is long enough.
+#[tactic(auto, unfolding(crate::specs::Tables::rect_at))]
+pub fn rect_in(room: &[f64], i: usize) -> Rect
+    requires { 4 * i + 4 ≤ length room.now }
+    ensures { result ≡ spec.rect_at room.now i }
+{
+    let [x0, y0, x1, y1] = row_at::<4>(room, i);
+    Rect { x0, y0, x1, y1 }
+}
 
 // Inner: the tables hold 256.
 pub fn rect_at(a: &[f64; 1024], i: usize) -> Rect
     requires { i < 256 }
     ensures { result ≡ spec.rect_at a.now i }
 {
-    let b = box_in(a, i);
-    Rect {
-        x0: b.min_x,
-        y0: b.min_y,
-        x1: b.max_x,
-        y1: b.max_y,
-    }
+    rect_in(a, i)
 }
 
 // Inner: the tables hold 256.
+#[tactic(auto, unfolding(crate::specs::Tables::put_rect))]
 pub fn put_rect(a: &mut [f64; 1024], i: usize, r: Rect)
     requires { i < 256 }
     ensures { a.new ≡ spec.put_rect a.old i r }
 {
-    put_box_in(a, i, Aabb2D::new(r.x0, r.y0, r.x1, r.y1));
+    put_row(a, i, [r.x0, r.y0, r.x1, r.y1]);
 }
 
 // Inner: the tables hold 256.
+#[tactic(auto, unfolding(crate::specs::Tables::insets_at))]
 pub fn insets_at(a: &[f64; 1024], i: usize) -> Insets
     requires { i < 256 }
     ensures { result ≡ spec.insets_at a.now i }
 {
-    let b = box_in(a, i);
-    Insets {
-        x0: b.min_x,
-        y0: b.min_y,
-        x1: b.max_x,
-        y1: b.max_y,
-    }
+    let [x0, y0, x1, y1] = row_at::<4>(a, i);
+    Insets { x0, y0, x1, y1 }
 }
 
 // Inner: the tables hold 256.
+#[tactic(auto, unfolding(crate::specs::Tables::put_insets))]
 pub fn put_insets(a: &mut [f64; 1024], i: usize, s: Insets)
     requires { i < 256 }
     ensures { a.new ≡ spec.put_insets a.old i s }
 {
-    put_box_in(a, i, Aabb2D::new(s.x0, s.y0, s.x1, s.y1));
+    put_row(a, i, [s.x0, s.y0, s.x1, s.y1]);
 }
 
 // Inner: the tables hold 256.
-pub fn affine_at(a: &[f64; 1536], i: usize) -> Affine
+#[tactic(auto, unfolding(crate::specs::Tables::affine_at))]
+pub fn affine_at(table: &[f64; 1536], i: usize) -> Affine
     requires { i < 256 }
-    ensures { result ≡ spec.affine_at a.now i }
+    ensures { result ≡ spec.affine_at table.now i }
 {
-    let p = 6 * i;
-    Affine {
-        a: a[p],
-        b: a[p + 1],
-        c: a[p + 2],
-        d: a[p + 3],
-        e: a[p + 4],
-        f: a[p + 5],
-    }
+    let [a, b, c, d, e, f] = row_at::<6>(table, i);
+    Affine { a, b, c, d, e, f }
 }
 
 // Inner: the tables hold 256.
+#[tactic(auto, unfolding(crate::specs::Tables::put_affine))]
 pub fn put_affine(a: &mut [f64; 1536], i: usize, t: Affine)
     requires { i < 256 }
     ensures { a.new ≡ spec.put_affine a.old i t }
 {
-    let p = 6 * i;
-    a[p] = t.a;
-    a[p + 1] = t.b;
-    a[p + 2] = t.c;
-    a[p + 3] = t.d;
-    a[p + 4] = t.e;
-    a[p + 5] = t.f;
+    put_row(a, i, [t.a, t.b, t.c, t.d, t.e, t.f]);
 }

@@ -2,36 +2,42 @@
 ghost use Rattle.std.specs.Prelude.{◌≡◌, ◌<◌};
 ghost use Rattle.node_tables.specs.Tables as spec;
 
+use crate::rows::put_row;
 use geometry::rect::Rect;
-use geometry_clips::clip::{Clip, ClipRect};
-use index_types::Aabb2D;
-use index_types::flat_tables::put_box;
+use geometry_clips::clip::Clip;
 
 // Inner: the eight numbers of a clip: edges and radii, 0 where its kind has none.
+#[tactic(auto, unfolding(crate::specs::Tables::put_clip))]
 pub fn put_clip(a: &mut [f64; 2048], i: usize, c: Clip)
     requires { i < 256 }
     ensures { a.new ≡ spec.put_clip a.old i c }
 {
     let r = clip_edges(c);
     let q = c.radii();
-    put_box(a, 2 * i, Aabb2D::new(r.x0, r.y0, r.x1, r.y1));
-    put_box(
+    put_row(
         a,
-        2 * i + 1,
-        Aabb2D::new(q.top_left, q.top_right, q.bottom_right, q.bottom_left),
+        i,
+        [
+            r.x0,
+            r.y0,
+            r.x1,
+            r.y1,
+            q.top_left,
+            q.top_right,
+            q.bottom_right,
+            q.bottom_left,
+        ],
     );
 }
 
+#[tactic(auto, unfolding(crate::specs::Tables::edges_from))]
 fn clip_edges(c: Clip) -> Rect
     ensures { result ≡ spec.edges_of c }
 {
-    match c.rect() {
-        ClipRect::None => Rect {
-            x0: 0.0,
-            y0: 0.0,
-            x1: 0.0,
-            y1: 0.0,
-        },
-        ClipRect::Some(r) => r,
-    }
+    c.rect().unwrap_or(Rect {
+        x0: 0.0,
+        y0: 0.0,
+        x1: 0.0,
+        y1: 0.0,
+    })
 }

@@ -1,16 +1,15 @@
 -- Equality to the bit: the test is exact on all floats, and on those of the format it is that of the bits.
 use mathlib.Core.Path.{◌≡◌, refl, sym, ap, ◌∙◌}
-use mathlib.Core.Bool.{Bool, true, false, not, ◌&&◌, beq}
+use mathlib.Core.Bool.{Bool, true, false, ◌&&◌, beq}
 use native.Mathlib.Omega.{arith}
 use borrow.Author.Tests.{eq-eqb, eqb-true, leb-true, le-leb}
 use lib.Dec.{T, eqb}
 use lib.IntN.{ℤ, pos, negsuc}
 use lib.Signed.{le_z}
-use lib.Ieee.{Float, nan, inf, fin, binary64, is_nan, ne, fits, of_bits, to_bits}
+use lib.Ieee.{Float, nan, inf, fin, binary64, is_nan, fits, of_bits, to_bits}
 use lib.Ieee.Bits.{of_bits-to_bits}
 use Rattle.numbers.specs.Number.{same}
 use Rattle.numbers.proofs.Bools.{clash, and_left, and_right, split}
-use Rattle.numbers.proofs.Numbers.{ne_self}
 
 beq_tells : (s t : Bool) → (beq s t ≡ true → s ≡ t) × (s ≡ t → beq s t ≡ true)
 beq_tells true true = ((λ _. refl), (λ _. refl))
@@ -92,7 +91,3 @@ same_bits a b f g = split (eqb (to_bits binary64 a) (to_bits binary64 b)) same_t
         split (same a b)
         (λ (s : same a b ≡ true). clash (sym (eq-eqb (to_bits binary64 a) (to_bits binary64 b) (ap (to_bits binary64) (same_eq a b s))) ∙ h))
         (λ (s : same a b ≡ false). h ∙ sym s)
-
--- the bits of a number that equals itself can be read
-pub not_nan : (a : Float) → ne a a ≡ false → T (not (is_nan a))
-not_nan a h = let e : is_nan a ≡ false = sym (ne_self a) ∙ h in rw e tt

@@ -39,3 +39,14 @@ four false b c d h = clash (sym h)
 
 pub all_four : {a b c d : Bool} → Four a b c d → a && b && (c && d) ≡ true
 all_four F = rw (F.first, F.second, F.third, F.fourth)
+
+-- the same of tests in a chain, as a derived equality joins them
+pub four_chained : (a b c d : Bool) → a && (b && (c && d)) ≡ true → Four a b c d
+four_chained true true true true h = record { first = refl; second = refl; third = refl; fourth = refl }
+four_chained true true true false h = clash (sym h)
+four_chained true true false d h = clash (sym h)
+four_chained true false c d h = clash (sym h)
+four_chained false b c d h = clash (sym h)
+
+pub all_chained : {a b c d : Bool} → Four a b c d → a && (b && (c && d)) ≡ true
+all_chained F = rw (F.first, F.second, F.third, F.fourth)

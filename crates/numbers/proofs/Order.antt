@@ -10,7 +10,7 @@ use borrow.Author.Tests.{ltb-true, ltb-false, lt-ltb, le-ltb, eqb-true, eqb-fals
 use lib.Ieee.{Float, nan, inf, fin, up, down, below, level, is_nan, lt, le, eq, neg}
 use lib.Ieee.Fits.{down_pos}
 use lib.Ieee.Scale.{finite}
-use Rattle.numbers.proofs.Bools.{clash, split, and_left, and_right, or_true, four, all_four}
+use Rattle.numbers.proofs.Bools.{clash, split, and_left, and_right, or_true, four, four_chained, all_chained}
 use Rattle.numbers.proofs.Numbers.{no_product}
 
 -- ---- equality
@@ -314,13 +314,13 @@ le_alike_right x y z h = rw (lt_alike_right x y z h, eq_alike_right x y z h)
 -- ---- four numbers against four: edges, insets or radii
 
 abbrev pub eq_four : (a b c d a' b' c' d' : Float) → Bool
-eq_four a b c d a' b' c' d' = eq a a' && eq b b' && (eq c c' && eq d d')
+eq_four a b c d a' b' c' d' = eq a a' && (eq b b' && (eq c c' && eq d d'))
 
 module _ (a b c d : Float) where
   pub four_refl : finite a && finite b && (finite c && finite d) ≡ true → eq_four a b c d a b c d ≡ true
   four_refl f =
       let F = four (finite a) (finite b) (finite c) (finite d) f in
-      all_four
+      all_chained
       (record {
         first = eq_refl a (finite_number a F.first);
         second = eq_refl b (finite_number b F.second);
@@ -334,5 +334,5 @@ module _ (a b c d : Float) where
 
     pub four_alike : eq_four a b c d a' b' c' d' ≡ true → (p q r s : Float) → eq_four a b c d p q r s ≡ eq_four a' b' c' d' p q r s
     four_alike h p q r s =
-        let F = four (eq a a') (eq b b') (eq c c') (eq d d') h in
+        let F = four_chained (eq a a') (eq b b') (eq c c') (eq d d') h in
         rw (eq_alike a a' p F.first, eq_alike b b' q F.second, eq_alike c c' r F.third, eq_alike d d' s F.fourth)

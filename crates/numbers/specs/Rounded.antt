@@ -1,5 +1,5 @@
 -- Arithmetic of f64. Each symbol in a circle is one operation of IEEE 754's binary64, rounded once, to nearest, a tie to even.
--- The definitions of geometry, transforms and clips are written with them in document 01's order of operations: ⊗ and ⊘ bind tighter
+-- The definitions of geometry, transforms and clips are written with them, in kurbo's order of operations: ⊗ and ⊘ bind tighter
 -- than ⊕ and ⊖, and each groups to the left. No law of real algebra is assumed of them, and nothing is fused.
 use Rattle.std.specs.Prelude.{false, Float, pos, negsuc}
 use Rattle.std.specs.Float.{fin, binary64}

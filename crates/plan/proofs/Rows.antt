@@ -1,4 +1,5 @@
 -- Worked rows of the plan's definitions, each by computation: document 01's examples, and the orders that a careless reading gets wrong.
+use Rattle.std.specs.Prelude.{None, Some}
 use Prim.Native.Nat.{ℕ}
 use mathlib.Core.Path.{◌≡◌, refl}
 use mathlib.Core.Bool.{Bool, true, false}
@@ -20,7 +21,6 @@ use Rattle.index_types.specs.declared.NodeId.{NodeId}
 use Rattle.index_types.specs.Boxes.{contains_point, overlaps}
 use Rattle.tree_worlds.specs.World.{image, meet_own, meet, clipped, placed, world_box, hit_box, reached}
 use Rattle.tree_types.specs.declared.LocalNode.{LocalNode}
-use Rattle.tree_types.specs.declared.OptionNodeId.TheVariants as node
 use Rattle.tree_types.specs.Local.{flags, has_all, finite_local, stored, default_local, with_bounds, with_slop, with_transform, with_clip, with_level, with_flags}
 use Rattle.link_forest.specs.Forest.{pre, post, has, cat, under, remove, roots, spot, children}
 use Rattle.plan.specs.Lists.{keep, any, joined, up_to, insert_sorted, sorted}
@@ -49,10 +49,10 @@ unfoldable pub ten : LocalNode
 ten = local 10 is.None (pos 0)
 
 unfoldable pub root : Call
-root = call.insert node.None ten
+root = call.insert None ten
 
 unfoldable pub child : NodeId → Call
-child p = call.insert (node.Some p) ten
+child p = call.insert (Some p) ten
 
 -- lent room of so many numbers
 unfoldable pub floats : ℕ → List Float
@@ -120,11 +120,11 @@ pub ids : (next [] ≡ id 0 1)  -- P2
     × (next (root ∷ child a ∷ call.remove a ∷ []) ≡ id 0 2)  -- P3: A, child B; remove A
     × (next (root ∷ child a ∷ call.remove a ∷ root ∷ []) ≡ id 1 2)
     × (next (root ∷ child a ∷ child a ∷ call.remove a ∷ root ∷ []) ≡ id 2 2)  -- children first in order, last freed first
-    × (told (root ∷ child a ∷ []) (call.reparent a (node.Some b)) ≡ 4)  -- P4
-    × (told (root ∷ []) (call.reparent a (node.Some a)) ≡ 4)
-    × (children 0 (after (root ∷ child a ∷ child a ∷ call.reparent b (node.Some a) ∷ [])).links ≡ 2 ∷ 1 ∷ [])  -- P5
+    × (told (root ∷ child a ∷ []) (call.reparent a (Some b)) ≡ 4)  -- P4
+    × (told (root ∷ []) (call.reparent a (Some a)) ≡ 4)
+    × (children 0 (after (root ∷ child a ∷ child a ∷ call.reparent b (Some a) ∷ [])).links ≡ 2 ∷ 1 ∷ [])  -- P5
     × (told (root ∷ call.remove a ∷ root ∷ []) (child a) ≡ 3)  -- a dead parent's slot in use again
-    × (told [] (call.insert (node.Some (id 0 0)) ten) ≡ 3)  -- generation 0 names no node
+    × (told [] (call.insert (Some (id 0 0)) ten) ≡ 3)  -- generation 0 names no node
 unfolding computed
 ids = (refl, refl, refl, refl, refl, refl, refl, refl, refl)
 
@@ -137,14 +137,14 @@ pub needed : (needs (root ∷ []) ≡ true)
     × (needs (root ∷ settle ∷ call.set_local_transform a (shifted 1 0) ∷ call.set_local_transform a identity ∷ []) ≡ true)  -- set and set back
     × (needs (root ∷ settle ∷ call.set_local_bounds a (rect (neg zero) zero (num 10) (num 10)) ∷ []) ≡ false)  -- −0 over +0
     × (needs (root ∷ call.commit (floats 2047) ∷ []) ≡ true)  -- a refused commit
-    × (needs (root ∷ settle ∷ call.reparent a node.None ∷ []) ≡ true)  -- a root moved to no parent is moved
+    × (needs (root ∷ settle ∷ call.reparent a None ∷ []) ≡ true)  -- a root moved to no parent is moved
     × (needs (root ∷ settle ∷ call.set_local_transform a (shifted 1 0) ∷ settle ∷ []) ≡ false)  -- a second commit
     × (needs (root ∷ root ∷ settle ∷ call.remove a ∷ settle ∷ []) ≡ false)
 unfolding computed
 needed = (refl, refl, refl, refl, refl, refl, refl, refl, refl, refl, refl)
 
 -- the lowest number that applies
-pub refusals : (told [] (call.insert (node.Some a) (grown nan)) ≡ 3)
+pub refusals : (told [] (call.insert (Some a) (grown nan)) ≡ 3)
     × (told [] (call.commit (floats 2047)) ≡ 8)
     × (told (root ∷ []) (call.read (call.world_bounds b)) ≡ 2)
     × (told (root ∷ []) (call.read (call.world_bounds a)) ≡ 7)
@@ -154,16 +154,16 @@ pub refusals : (told [] (call.insert (node.Some a) (grown nan)) ≡ 3)
     × (told (root ∷ []) (call.request (call.hit_test_point (point 0 0)) (flags 3) (words 0)) ≡ 7)
     × (told (root ∷ settle ∷ []) (call.request (call.hit_test_point (point 0 0)) (flags 3) (words 511)) ≡ 8)
     × (told (root ∷ settle ∷ []) (call.request (call.hit_test_point (point 0 0)) (flags 3) (words 512)) ≡ 0)
-    × (told (root ∷ []) (call.reparent b (node.Some b)) ≡ 2)
-    × (told (root ∷ child a ∷ call.remove b ∷ []) (call.reparent a (node.Some b)) ≡ 3)
+    × (told (root ∷ []) (call.reparent b (Some b)) ≡ 2)
+    × (told (root ∷ child a ∷ call.remove b ∷ []) (call.reparent a (Some b)) ≡ 3)
 unfolding computed
 refusals = (refl, refl, refl, refl, refl, refl, refl, refl, refl, refl, refl, refl)
 
 -- the order of entries
 pub orders : (listing (root ∷ root ∷ call.remove a ∷ root ∷ settle ∷ []) ≡ b ∷ id 0 2 ∷ [])  -- marks by generation, then index
     × (listing (root ∷ root ∷ child a ∷ settle ∷ []) ≡ a ∷ c ∷ b ∷ [])  -- a covered node is entered in its ancestor's walk
-    × (listing (root ∷ settle ∷ child a ∷ child a ∷ call.reparent b (node.Some a) ∷ settle ∷ []) ≡ a ∷ b ∷ c ∷ [])
-    × (listing (root ∷ settle ∷ child a ∷ child a ∷ call.reparent b (node.Some a) ∷ call.set_local_transform a (shifted 1 0) ∷ call.set_local_transform a identity ∷ settle ∷ [])
+    × (listing (root ∷ settle ∷ child a ∷ child a ∷ call.reparent b (Some a) ∷ settle ∷ []) ≡ a ∷ b ∷ c ∷ [])
+    × (listing (root ∷ settle ∷ child a ∷ child a ∷ call.reparent b (Some a) ∷ call.set_local_transform a (shifted 1 0) ∷ call.set_local_transform a identity ∷ settle ∷ [])
     ≡ a ∷ c ∷ b ∷ [])  -- the same with a's transform set and set back
     × (listing (root ∷ root ∷ settle ∷ call.remove a ∷ root ∷ settle ∷ []) ≡ b ∷ id 0 2 ∷ [])  -- new entries are taken before removed ones are freed
     × (listing (root ∷ root ∷ settle ∷ call.remove a ∷ root ∷ settle ∷ root ∷ settle ∷ []) ≡ c ∷ b ∷ id 0 2 ∷ [])  -- and the freed one next
@@ -172,21 +172,21 @@ pub orders : (listing (root ∷ root ∷ call.remove a ∷ root ∷ settle ∷ [
     × (visits (after (root ∷ child a ∷ settle ∷ call.set_local_clip a (is.Square zero zero one one) ∷ [])) ≡ 0 ∷ 1 ∷ [])  -- a clip counts as a transform does
     × (visits (after (root ∷ child a ∷ settle ∷ call.set_local_bounds a (rect zero zero one one) ∷ [])) ≡ 0 ∷ [])
     × (visits (after (root ∷ child a ∷ settle ∷ call.set_local_bounds a (rect zero zero one one) ∷ call.set_local_bounds b (rect zero zero one one) ∷ [])) ≡ 0 ∷ 1 ∷ [])  -- such a mark covers nobody
-    × (visits (after (root ∷ root ∷ child b ∷ settle ∷ call.reparent b (node.Some a) ∷ [])) ≡ 1 ∷ 2 ∷ [])  -- a moved node counts as changed
+    × (visits (after (root ∷ root ∷ child b ∷ settle ∷ call.reparent b (Some a) ∷ [])) ≡ 1 ∷ 2 ∷ [])  -- a moved node counts as changed
 unfolding computed
 orders = (refl, refl, refl, refl, refl, refl, refl, refl, refl, refl, refl)
 
 -- taps and listings
 unfoldable pub places : List Call
 places =
-    call.insert node.None (local 100 is.None (pos 0))
-    ∷ call.insert (node.Some a)
+    call.insert None (local 100 is.None (pos 0))
+    ∷ call.insert (Some a)
     (with_bounds (rect zero zero (num 40) (num 20)) (with_transform (turn 100 0) default_local))
     ∷ settle
     ∷ []
 
 unfoldable pub half_clip : List Call
-half_clip = call.insert node.None (local 20 (is.Square zero zero (num 10) (num 10)) (pos 0)) ∷ settle ∷ []
+half_clip = call.insert None (local 20 (is.Square zero zero (num 10) (num 10)) (pos 0)) ∷ settle ∷ []
 
 pub taps : (world_bounds (after places) 1 ≡ rect (num 80) zero (num 100) (num 40))  -- P6
     × (tapped places (point 90 10) ≡ hit b (a ∷ b ∷ []))
@@ -200,17 +200,17 @@ pub taps : (world_bounds (after places) 1 ≡ rect (num 80) zero (num 100) (num 
     × (list_point (after (root ∷ settle ∷ [])) (flags 3) (point 10 5) ≡ a ∷ [])
     × (list_rect (after (root ∷ settle ∷ [])) (flags 3) (rect (num 10) (num 10) (num 20) (num 20)) ≡ a ∷ [])
     × (list_rect (after (root ∷ settle ∷ [])) (flags 3) (rect (num 8) (num 8) (num 2) (num 2)) ≡ a ∷ [])  -- a rectangle as given
-    × (tapped (call.insert node.None (grown (neg (num 6))) ∷ settle ∷ []) (point 5 5) ≡ nothing)  -- a negative slop
-    × (listing (call.insert node.None (grown (neg (num 6))) ∷ settle ∷ []) ≡ a ∷ [])
-    × (list_point (after (call.insert node.None (grown (neg (num 6))) ∷ settle ∷ [])) (flags 3) (point 1 1) ≡ [])
-    × (tapped (call.insert node.None (local 10 is.None (pos 1)) ∷ call.insert node.None (local 10 is.None (negsuc 0)) ∷ settle ∷ []) (point 5 5) ≡ hit a (a ∷ []))  -- levels have signs
+    × (tapped (call.insert None (grown (neg (num 6))) ∷ settle ∷ []) (point 5 5) ≡ nothing)  -- a negative slop
+    × (listing (call.insert None (grown (neg (num 6))) ∷ settle ∷ []) ≡ a ∷ [])
+    × (list_point (after (call.insert None (grown (neg (num 6))) ∷ settle ∷ [])) (flags 3) (point 1 1) ≡ [])
+    × (tapped (call.insert None (local 10 is.None (pos 1)) ∷ call.insert None (local 10 is.None (negsuc 0)) ∷ settle ∷ []) (point 5 5) ≡ hit a (a ∷ []))  -- levels have signs
 unfolding computed places half_clip
 taps = (refl, refl, refl, refl, refl, refl, refl, refl, refl, refl, refl, refl, refl, refl, refl, refl)
 
 -- a withheld parent: place 1 without flags, level 9, above place 2, with a clip 0 to 4
 unfoldable pub hidden : List Call
 hidden =
-    call.insert node.None (local 10 (is.Square zero zero (num 4) (num 4)) (pos 9)) ∷ child a ∷ settle ∷ call.set_flags a (flags 0) ∷ []
+    call.insert None (local 10 (is.Square zero zero (num 4) (num 4)) (pos 9)) ∷ child a ∷ settle ∷ call.set_flags a (flags 0) ∷ []
 
 pub redaction : (tap (redact (flags 3) (after hidden)) (flags 3) (point 3 3) ≡ hit b (a ∷ b ∷ []))
     × (tap (redact (flags 3) (after hidden)) (flags 3) (point 5 5) ≡ nothing)

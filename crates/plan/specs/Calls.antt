@@ -1,6 +1,6 @@
 -- Every call, by its name and arguments, lent room as it stands before the call; its refusal on the plan, what it leaves of the plan, and what it
 -- tells. Of lent room the plan hears the length alone.
-use Rattle.std.specs.Prelude.{ℕ, zero, suc, Bool, not, List, ltb, Float, ℤ, length}
+use Rattle.std.specs.Prelude.{ℕ, zero, suc, Bool, not, List, ltb, Float, ℤ, length, Option}
 pub use Rattle.counting.specs.Conditions.{Conditions, accept, ◌else◌then◌}
 unfoldable pub use Rattle.counting.specs.Conditions.{lowest}
 use Rattle.geometry.specs.declared.point.Point.{Point}
@@ -14,7 +14,6 @@ use Rattle.geometry_clips.specs.Clips.{constructed, clip_eq, finite_clip}
 use Rattle.index_types.specs.declared.NodeId.{NodeId}
 use Rattle.tree_types.specs.declared.NodeFlags.{NodeFlags}
 use Rattle.tree_types.specs.declared.LocalNode.{LocalNode}
-use Rattle.tree_types.specs.declared.OptionNodeId.{OptionNodeId}
 use Rattle.tree_types.specs.Local.{known, finite_local, with_transform, with_clip, with_bounds, with_slop, with_level, with_flags}
 use Rattle.plan.specs.Plan.{Plan, live, parent_live, at_or_below, full, needs_commit as commit_needed, new_id, inserted, removed, moved, set_unless, with_local, mark_alone, mark_transform, mark_clip}
 use Rattle.plan.specs.Visits.{committed}
@@ -42,9 +41,9 @@ pub data Reading : Type 0 where
   world_hit_bounds : NodeId → Reading
 
 pub data Call : Type 0 where
-  insert : OptionNodeId → LocalNode → Call
+  insert : Option NodeId → LocalNode → Call
   remove : NodeId → Call
-  reparent : NodeId → OptionNodeId → Call
+  reparent : NodeId → Option NodeId → Call
   set_local_transform : NodeId → Affine → Call
   set_local_clip : NodeId → Clip → Call
   set_local_bounds : NodeId → Rect → Call

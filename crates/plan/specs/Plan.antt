@@ -1,11 +1,9 @@
 -- Document 01's plain plan: "It keeps links (children in order), slots with generations, local records, live nodes' marks with what counts
 -- as changed, entry numbers, the entries marked removed in their order, and both free lists." Of a dead node's local record, mark and
 -- entry nothing is ever read; insert writes all three anew.
-use Rattle.std.specs.Prelude.{ℕ, suc, Bool, true, false, not, ◌&&◌, ◌||◌, cond, List, [], ◌∷◌, ◌++◌, reverse, eqb, ltb, leb, length}
+use Rattle.std.specs.Prelude.{ℕ, suc, Bool, true, false, not, ◌&&◌, ◌||◌, cond, List, [], ◌∷◌, ◌++◌, reverse, eqb, ltb, leb, length, None, Some, Option}
 use Rattle.index_types.specs.declared.NodeId.{NodeId}
 use Rattle.tree_types.specs.declared.LocalNode.{LocalNode}
-use Rattle.tree_types.specs.declared.OptionNodeId.{OptionNodeId}
-use Rattle.tree_types.specs.declared.OptionNodeId.TheVariants as node
 use Rattle.tree_types.specs.Local.{default_local, stored}
 use Rattle.link_forest.specs.Forest.{Forest, none, leaf, pre, post, has, cat, under, remove, part}
 use Rattle.plan.specs.Lists.{put, any, joined}
@@ -75,14 +73,14 @@ abbrev pub live : Plan → NodeId → Bool
 live p i = has i.0 p.links && eqb (p.slots.generation i.0) i.1
 
 -- a parent, if one is named, is live
-abbrev pub parent_live : Plan → OptionNodeId → Bool
-parent_live p node.None = true
-parent_live p (node.Some h) = live p h
+abbrev pub parent_live : Plan → Option NodeId → Bool
+parent_live p None = true
+parent_live p (Some h) = live p h
 
 -- the new parent is the node or below it
-abbrev pub at_or_below : Plan → ℕ → OptionNodeId → Bool
-at_or_below p x node.None = false
-at_or_below p x (node.Some h) = has h.0 (part x p.links)
+abbrev pub at_or_below : Plan → ℕ → Option NodeId → Bool
+at_or_below p x None = false
+at_or_below p x (Some h) = has h.0 (part x p.links)
 
 -- "256 live nodes"
 abbrev pub full : Plan → Bool
@@ -136,14 +134,14 @@ take_slot s =
     }
 
 -- last among the children of the parent, or among the roots
-abbrev pub onto : OptionNodeId → Forest → Forest → Forest
-onto node.None t f = cat f t
-onto (node.Some h) t f = under h.0 t f
+abbrev pub onto : Option NodeId → Forest → Forest → Forest
+onto None t f = cat f t
+onto (Some h) t f = under h.0 t f
 
 abbrev pub with_entry : Entries → ℕ → Entry → Entries
 with_entry e x n = record { entry = put e.entry x n; removed = e.removed; used = e.used; free = e.free }
 
-unfoldable pub inserted : Plan → OptionNodeId → LocalNode → Plan
+unfoldable pub inserted : Plan → Option NodeId → LocalNode → Plan
 inserted p parent v =
     record {
       links = onto parent (leaf (new_slot p)) p.links;
@@ -173,7 +171,7 @@ removed p x =
 
 -- ---- reparent: "puts the node last among its new siblings, also under the same parent"
 
-unfoldable pub moved : Plan → ℕ → OptionNodeId → Plan
+unfoldable pub moved : Plan → ℕ → Option NodeId → Plan
 moved p x parent =
     record {
       links = onto parent (part x p.links) (remove x p.links);

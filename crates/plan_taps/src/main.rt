@@ -3,8 +3,6 @@
 
 ghost use Rattle.std.specs.Prelude.{◌≤◌, length};
 
-use sheet_answers::Written;
-
 const STANDARD_INPUT: i32 = 0;
 
 const STANDARD_OUTPUT: i32 = 1;
@@ -21,9 +19,7 @@ fn main() {
     let mut input = [0u8; 65_537];
     let n = io::read_full(STANDARD_INPUT, &mut input);
     let mut room = [0u8; 16_384];
-    let answer = sheet_answers::answer_into(&input[..n], &mut room);
-    let Written::Bytes(k) = answer else {
-        return;
-    };
-    write_front(&room, k);
+    if let Ok(length) = sheet_answers::answer_into(&input[..n], &mut room) {
+        write_front(&room, length);
+    }
 }

@@ -1,22 +1,25 @@
--- A good sheet's taps, by the tree as by the plan; what the bytes yield; the whole text. Assumes nothing.
+-- A good sheet's taps, by the tree as by the plan; the text of what the bytes yield, and how long it is. Assumes nothing.
+use Rattle.std.specs.Prelude.{All}
 use Prim.Native.Nat.{ℕ, suc, ◌+◌, ◌*◌, ◌≤◌, ◌<◌}
 use mathlib.Core.Path.{◌≡◌, refl, sym, ap, ◌∙◌, subst}
-use mathlib.Core.Bool.{Bool, true, false}
-use mathlib.Core.List.{List, [], ◌∷◌, ◌++◌}
+use mathlib.Core.Bool.{true, false}
+use mathlib.Core.List.{List, [], ◌∷◌, ◌++◌, map}
 use native.Mathlib.Omega.{arith}
-use lib.Dec.{ltb}
-use borrow.Author.Tests.{ltb-false}
 use lib.IntN.{ℤ}
 use lib.ListN.{length, get_or, drop, length-append}
 use lib.Seq.{sets-eq}
+use Rattle.std.proofs.lemmas.List.{get_or-map, length-map}
 use Rattle.plan.specs.Afresh.{Tap}
+use Rattle.tree_types.specs.declared.NodeFlags.{NodeFlags}
+use Rattle.tree_types.specs.Local.{known}
 use Rattle.tree_state.specs.declared.Tree.{Tree}
-use Rattle.sheet_format.specs.Sheet.{tap_width, most_taps, Sheet, Read, refused, sheet, read_sheet, tap_of, tap_in_range, tap_rule}
-use Rattle.sheet_format.specs.declared.Refusal.{Refusal}
-use Rattle.sheet_format.specs.declared.Answer.{Answer}
-use Rattle.sheet_format.specs.declared.Answer.TheVariants as answer
-use Rattle.sheet_format.specs.Told.{rows_of, row_at, told_answer, lines_of, number_of}
-use Rattle.sheet_calls.specs.Answers.{plan_of, tap_on, asked_of, point_of, place_hit, depth_hit, decimal, line_of, tap_lines, sheet_text, read_text, bytes, output}
+use Rattle.tree_state.specs.Tree.{number_in, number_of}
+use Rattle.tree_verdicts.specs.Held.{Asked}
+use Rattle.tree_verdicts.proofs.requests.Accepted.{accepted}
+use Rattle.sheet_format.specs.declared.TapLine.{TapLine}
+use Rattle.sheet_format.specs.Sheet.{Sheet, Read, refused, sheet, read_sheet, tap_of, tap_in_range, tap_rule}
+use Rattle.sheet_format.specs.Told.{tap_numbers}
+use Rattle.sheet_calls.specs.Answers.{plan_of, tap_on, asked_of, point_of, place_hit, depth_hit, line_of, tap_lines, sheet_text, read_text, bytes, output}
 use Rattle.sheet_calls.specs.Good.{Good, Passes}
 use Rattle.sheet_calls.proofs.Finite.{tap_ranges, asked_known}
 use Rattle.sheet_calls.proofs.Inserts.{passes_at}
@@ -24,106 +27,107 @@ use Rattle.sheet_calls.proofs.Accepted.{good_sheet}
 use Rattle.sheet_calls.proofs.Bounds.{tap_short, refusal_small}
 use Rattle.sheet_laws.specs.Built.{tree_of}
 use Rattle.sheet_laws.proofs.Tree.{tap_accepted, tap_found}
-use Rattle.sheet_format.proofs.Tables.{rows_length, row_at_lem}
-use Rattle.sheet_tree.specs.Trees.{tree_on, Yields}
+use Rattle.sheet_tree.specs.Trees as trees
+use Rattle.sheet_tree.specs.Trees.{Yield, tree_on}
 use Rattle.sheet_tree.specs.declared.SheetTree.{SheetTree}
+use Rattle.sheet_tree.proofs.Trees.{whole_tree}
 use Rattle.sheet_answers.specs.text.Text.{Stored}
-use Rattle.sheet_answers.proofs.text.Digits.{short}
-use Rattle.sheet_answers.specs.tap_lines.Lines.{found, tap_text, AllReady}
-use Rattle.sheet_answers.proofs.tap_lines.Lines.{short_mark, short_line}
-use Rattle.sheet_answers.specs.Answers.{text_by, tree_text, written_if, written_number, room_if, roomy}
-use Rattle.sheet_answers.specs.declared.Written.{Written}
-use Rattle.sheet_answers.specs.declared.Written.TheVariants as written
+use Rattle.sheet_answers.proofs.text.Digits.{short_line, short_count, pair_short}
+use Rattle.sheet_answers.specs.tap_lines.Lines.{found, tap_text, Ready}
+use Rattle.sheet_answers.specs.Answers.{taps_text, written_if, roomy}
 
 -- ---- a good sheet's taps
 
-found_same : (s : Sheet) (zs : List ℤ) → tap_in_range (tap_of zs) ≡ true → found (tree_of s) (tap_of zs) ≡ tap_on (plan_of s) (tap_of zs)
+found_same : (s : Sheet) (p : TapLine) → tap_in_range p ≡ true → found (tree_of s) p ≡ tap_on (plan_of s) p
 unfolding tap_on
-found_same s zs h = tap_found s (asked_of (tap_of zs)) (asked_known (tap_of zs) (tap_ranges (tap_of zs) h)) (point_of (tap_of zs))
+found_same s p h = tap_found s (asked_of p) (asked_known p (tap_ranges p h)) (point_of p)
 
-pub text_same : (s : Sheet) (k : ℕ) (before rows : List (List ℤ)) → Passes tap_rule before rows → tap_text (tree_of s) k rows ≡ tap_lines (plan_of s) k rows
-unfolding tap_text tap_lines Passes
+text_same : (s : Sheet) (k : ℕ) (before : List (List ℤ)) (taps : List TapLine) → Passes tap_rule before (map tap_numbers taps)
+    → tap_text (tree_of s) k taps ≡ tap_lines (plan_of s) k (map tap_numbers taps)
+unfolding tap_text tap_lines Passes tap_of
 text_same s k before [] P = refl
-text_same s k before (zs ∷ rows) P =
-    ap (λ (h : Tap). line_of (k ∷ place_hit h ∷ depth_hit h ∷ []) ++ tap_text (tree_of s) (suc k) rows) (found_same s zs P.0.ranged)
-    ∙ ap (λ (l : List ℕ). line_of (k ∷ place_hit (tap_on (plan_of s) (tap_of zs)) ∷ depth_hit (tap_on (plan_of s) (tap_of zs)) ∷ []) ++ l) (text_same s (suc k) (before ++ zs ∷ []) rows P.1)
+text_same s k before (p ∷ taps) P =
+    ap (λ (h : Tap). line_of (k ∷ place_hit h ∷ depth_hit h ∷ []) ++ tap_text (tree_of s) (suc k) taps) (found_same s p P.0.ranged)
+    ∙ ap (λ (l : List ℕ). line_of (k ∷ place_hit (tap_on (plan_of s) p) ∷ depth_hit (tap_on (plan_of s) p) ∷ []) ++ l) (text_same s (suc k) (before ++ tap_numbers p ∷ []) taps P.1)
 
-pub taps_ready : (s : Sheet) → Good s → (taps : List ℤ) (n : ℕ) → s.taps ≡ rows_of tap_width n taps → AllReady (tree_of s) taps n
-taps_ready s g taps n e i h =
-    let p = tap_of (row_at tap_width i taps) in
-    let f = passes_at tap_rule [] s.taps g.taps i (omega (arith, ap length e, rows_length tap_width n taps)) in
-    let row : get_or s.taps i [] ≡ row_at tap_width i taps = ap (λ (l : List (List ℤ)). get_or l i []) e ∙ row_at_lem tap_width n i taps h in
+asked_after : (s : Sheet) (asked : NodeFlags) → known asked ≡ true → Asked (tree_of s)
+asked_after s asked h =
+    let a = accepted (tree_of s) (whole_tree s) asked 512 (tap_accepted s asked h) in
+    record { held = a.held; no_need = a.no_need }
+
+taps_ready : (s : Sheet) → Good s → (taps : List TapLine) → map tap_numbers taps ≡ s.taps → All (Ready (tree_of s)) taps
+unfolding tap_of
+taps_ready s g taps e i d h =
+    let p = get_or taps i d in
+    let f = passes_at tap_rule [] s.taps g.taps i (omega (arith, h, ap (length {A = List ℤ}) e, length-map taps tap_numbers)) in
+    let row : get_or s.taps i [] ≡ tap_numbers p = ap (λ (l : List (List ℤ)). get_or l i []) (sym e) ∙ get_or-map tap_numbers taps i d [] h in
     let r : tap_in_range p ≡ true = subst (λ (z : List ℤ). tap_in_range (tap_of z) ≡ true) row f.ranged in
     let b = tap_short s g p in
-    let q = found_same s (row_at tap_width i taps) r in
+    let q = found_same s p r in
     record {
       ranged = r;
-      verdict = tap_accepted s (asked_of p) (asked_known p (tap_ranges p r));
+      asked = asked_after s (asked_of p) (asked_known p (tap_ranges p r));
       place = subst (λ (a : Tap). place_hit a ≤ 256) (sym q) b.0;
       depth = subst (λ (a : Tap). depth_hit a ≤ 256) (sym q) b.1;
     }
 
--- the whole text of a good sheet
-sheet_text_lem : (s : Sheet) → Good s → (taps : List ℤ) (n : ℕ) → s.taps ≡ rows_of tap_width n taps
-    → line_of (n ∷ []) ++ tap_text (tree_of s) 1 (rows_of tap_width n taps) ≡ sheet_text s
-unfolding sheet_text
-sheet_text_lem s g taps n e =
-    ap (λ (k : ℕ). line_of (k ∷ []) ++ tap_text (tree_of s) 1 (rows_of tap_width n taps)) (sym (rows_length tap_width n taps))
-    ∙ ap (λ (rows : List (List ℤ)). line_of (length rows ∷ []) ++ tap_text (tree_of s) 1 rows) (sym e)
-    ∙ ap (λ (l : List ℕ). line_of (length s.taps ∷ []) ++ l) (text_same s 1 [] s.taps g.taps)
-
-pub short_count : (n : ℕ) → n < 10000 → length (line_of (n ∷ [])) ≤ 5
-unfolding line_of
-short_count n h = short_mark n 10 h
-
 -- ---- what the bytes yield
 
-module _ (b : List ℕ) (p : SheetTree) (y : Yields b p) where
-  module _ (e : p.answer ≡ answer.Sheet) where
-    abbrev lines : Sheet
-    lines = lines_of (read_sheet b)
+sheet_said : (s : Sheet) → Good s → (t : SheetTree) → t.tree ≡ tree_of s → map tap_numbers t.taps.items ≡ s.taps
+    → All (Ready t.tree) t.taps.items × (taps_text t ≡ sheet_text s)
+unfolding sheet_text
+sheet_said s g t e f =
+    let taps = t.taps.items in
+    let P : Passes tap_rule [] (map tap_numbers taps) = subst (Passes tap_rule []) (sym f) g.taps in
+    let n : length taps ≡ length s.taps = sym (length-map taps tap_numbers) ∙ ap (length {A = List ℤ}) f in (
+      subst (λ (u : Tree). All (Ready u) taps) (sym e) (taps_ready s g taps f),
+      ap (λ (u : Tree). line_of (length taps ∷ []) ++ tap_text u 1 taps) e
+          ∙ ap (λ (l : List ℕ). line_of (length taps ∷ []) ++ l) (text_same s 1 [] taps P)
+          ∙ ap (λ (k : ℕ). line_of (k ∷ []) ++ tap_lines (plan_of s) 1 (map tap_numbers taps)) n
+          ∙ ap (λ (rows : List (List ℤ)). line_of (length s.taps ∷ []) ++ tap_lines (plan_of s) 1 rows) f,
+    )
 
-    read : read_sheet b ≡ sheet lines
-    read = sym y.answer ∙ ap (told_answer lines) e
+abbrev built_tree : Yield → Tree → Tree
+built_tree (trees.refused n l) d = d
+built_tree (trees.built t taps) d = t
 
-    good : Good lines
-    good = good_sheet b lines read
+abbrev built_taps : Yield → List (List ℤ)
+built_taps (trees.refused n l) = []
+built_taps (trees.built t taps) = taps
 
-    tree_read : p.tree ≡ tree_of lines
-    tree_read = y.tree ∙ ap tree_on read
+abbrev is_refused : Yield → ℕ
+is_refused (trees.refused n l) = 1
+is_refused (trees.built t taps) = 0
 
-    pub few_taps : p.tapped ≤ most_taps
-    few_taps = omega (arith, good.few_taps, ap (length {A = List ℤ}) y.taps, rows_length tap_width p.tapped p.taps)
+abbrev refused_as : Yield → ℕ × ℕ
+refused_as (trees.refused n l) = (n, l)
+refused_as (trees.built t taps) = (0, 0)
 
-    pub all_ready : AllReady p.tree p.taps p.tapped
-    all_ready = subst (λ (t : Tree). AllReady t p.taps p.tapped) (sym tree_read) (taps_ready lines good p.taps p.tapped (sym y.taps))
-
-    sheet_said : tree_text p ≡ output b
-    unfolding output
-    sheet_said =
-        ap (text_by p) e
-        ∙ ap (λ (t : Tree). line_of (p.tapped ∷ []) ++ tap_text t 1 (rows_of tap_width p.tapped p.taps)) tree_read
-        ∙ sheet_text_lem lines good p.taps p.tapped (sym y.taps)
-        ∙ ap read_text (sym read)
-
-  module _ (w : Refusal) (l : ℕ) (e : p.answer ≡ answer.Refused w l) where
-    stopped_read : read_sheet b ≡ refused (number_of w) l
-    stopped_read = sym y.answer ∙ ap (told_answer (lines_of (read_sheet b))) e
-
-    pub line_low : l < 10000
-    line_low = omega (arith, (refusal_small b (number_of w) l stopped_read).line)
-
-    refusal_said : tree_text p ≡ output b
-    unfolding output
-    refusal_said = ap (text_by p) e ∙ ap read_text (sym stopped_read)
-
-  -- the text of what they yield is what they are answered with
-  pub said : tree_text p ≡ output b
-  said = go p.answer refl
+module _ (b : List ℕ) where
+  -- the sheet's tree, with its taps
+  pub sheet_answered : (t : SheetTree) → trees.built t.tree (map tap_numbers t.taps.items) ≡ tree_on (read_sheet b) → All (Ready t.tree) t.taps.items × (taps_text t ≡ output b)
+  unfolding output
+  sheet_answered t e = go (read_sheet b) refl
     where
-      go : (a : Answer) → p.answer ≡ a → tree_text p ≡ output b
-      go answer.Sheet e = sheet_said e
-      go (answer.Refused w l) e = refusal_said w l e
+      go : (r : Read) → read_sheet b ≡ r → All (Ready t.tree) t.taps.items × (taps_text t ≡ read_text (read_sheet b))
+      go (refused n l) f = let z : 0 ≡ 1 = ap is_refused (e ∙ ap tree_on f) in absurd (omega (arith, z))
+      go (sheet s) f =
+          let h = e ∙ ap tree_on f in
+          let a = sheet_said s (good_sheet b s f) t (ap (λ (y : Yield). built_tree y t.tree) h) (ap built_taps h) in
+          (a.0, a.1 ∙ ap read_text (sym f))
+
+  -- a refusal's line
+  pub refusal_answered : (n l : ℕ) → trees.refused n l ≡ tree_on (read_sheet b) → (l < 10000) × (read_text (refused n l) ≡ output b)
+  unfolding output
+  refusal_answered n l e = go (read_sheet b) refl
+    where
+      go : (r : Read) → read_sheet b ≡ r → (l < 10000) × (read_text (refused n l) ≡ read_text (read_sheet b))
+      go (sheet s) f = let z : 1 ≡ 0 = ap is_refused (e ∙ ap tree_on f) in absurd (omega (arith, z))
+      go (refused m k) f =
+          let h = e ∙ ap tree_on f in
+          let p : n ≡ m = ap (λ (y : Yield). (refused_as y).0) h in
+          let q : l ≡ k = ap (λ (y : Yield). (refused_as y).1) h in
+          (omega (arith, q, (refusal_small b m k f).line), rw (p, q) (ap read_text (sym f)))
 
 -- ---- the whole text stands in front of the room
 
@@ -151,13 +155,6 @@ sheet_short s g =
     let e : length (first ++ rest) ≡ length first + length rest = length-append first rest in
     omega (arith, e, g.few_taps, short_count (length s.taps) (omega (arith, g.few_taps)), tap_lines_short s g 1 s.taps (omega (arith, g.few_taps)))
 
-pair_short : (n m : ℕ) → n < 10000 → m < 10000 → length (line_of (n ∷ m ∷ [])) ≤ 10
-unfolding line_of
-pair_short n m a b =
-    let last = decimal m ++ 10 ∷ [] in
-    let e : length (decimal n ++ 32 ∷ last) ≡ length (decimal n) + suc (length last) = length-append (decimal n) (32 ∷ last) in
-    omega (arith, e, short n a, short_mark m 10 b)
-
 pub output_short : (b : List ℕ) → length (output b) ≤ 16384
 unfolding output
 output_short b = go (read_sheet b) refl
@@ -169,26 +166,7 @@ output_short b = go (read_sheet b) refl
         let f : length (bytes "refused " ++ line_of (n ∷ l ∷ [])) ≡ 8 + length (line_of (n ∷ l ∷ [])) = length-append (bytes "refused ") (line_of (n ∷ l ∷ [])) in
         omega (arith, f, pair_short n l (omega (arith, z.number)) (omega (arith, z.line)))
 
--- ---- the answer
-
-module _ (s room : List ℕ) where
-  pub short_answer : ltb (length room) 16384 ≡ true → (written.ShortRoom ≡ written_if (roomy room) (length (output s))) × (room ≡ room_if (roomy room) (output s) room)
-  short_answer e = (rw e, rw e)
-
-  pub full_answer : ltb (length room) 16384 ≡ false → (p : SheetTree) (new : List ℕ) (n : ℕ) → Yields s p → Stored room new 0 n (tree_text p)
-      → (written.Bytes n ≡ written_if (roomy room) (length (output s))) × (new ≡ room_if (roomy room) (output s) room)
-  full_answer e p new n y S =
-      let T : Stored room new 0 n (output s) = subst (Stored room new 0 n) (said s p y) S in
-      let c : n ≡ length (output s) = omega (arith, T.behind) in
-      let long : length (output s) ≤ length room = omega (arith, ltb-false (length room) 16384 e, output_short s) in
-      (rw (e, c), rw e (in_front_lem room new n (output s) T long))
-
--- bytes that are told of are few
-pub count_low : (s : List ℕ) (b : Bool) (w : Written) (k : ℕ) → w ≡ written_if b (length (output s)) → w ≡ written.Bytes k → k ≤ 16384
-count_low s true w k e f = let g : k ≡ length (output s) = cc in omega (arith, output_short s)
-count_low s false w k e f = let z : ◌≡◌ {A = ℕ} 0 1 = cc in absurd (omega arith)
-
 -- room that is too short is 8
-pub short_8 : (room : List ℕ) (n : ℕ) → roomy room ≡ false → written_number (written_if (roomy room) n) ≡ 8
-unfolding written_number
+pub short_8 : (room : List ℕ) (n : ℕ) → roomy room ≡ false → number_in (written_if (roomy room) n) ≡ 8
+unfolding number_in number_of
 short_8 room n e = rw e

@@ -1,64 +1,48 @@
 // The text that a sheet's bytes are answered with, in lent room.
 #![tactic(auto)]
 
-// The line of a refused sheet.
-pub mod refusal_lines;
-// The lines of a sheet's taps.
-pub mod tap_lines;
-// What a tap hits on the sheet's tree: the place and its depth.
-pub mod taps;
-// Numbers as text, and lines of one, two and three.
-pub mod text;
+pub mod refusal_lines; // the line of a refused sheet
+pub mod tap_lines; // the lines of a sheet's taps
+pub mod taps; // what a tap hits on the sheet's tree: the place and its depth
+pub mod text; // numbers as text, and lines of numbers
 
-ghost use Rattle.std.specs.Prelude.{◌≡◌, ◌≤◌, length};
-ghost use Rattle.sheet_format.specs.Sheet.{most_taps};
+ghost use Rattle.std.specs.Prelude.{◌≡◌, ◌≤◌, length, All};
 ghost use Rattle.sheet_calls.specs.Answers as text;
 ghost use Rattle.sheet_answers.specs.text.Text.{Stored};
-ghost use Rattle.sheet_answers.specs.tap_lines.Lines.{AllReady};
+ghost use Rattle.sheet_answers.specs.tap_lines.Lines.{Ready};
 ghost use Rattle.sheet_answers.specs.Answers as spec;
 
-use sheet_format::Answer;
 use sheet_tree::SheetTree;
-
-// How many bytes stand in front of the room, or document 01's 8.
-#[derive(Clone, Copy)]
-pub enum Written {
-    Bytes(usize),
-    ShortRoom,
-}
+use tree_state::{Refusal, check};
 
 // The tap count, then the taps.
-fn put_sheet(p: SheetTree, room: &mut [u8]) -> usize
-    requires { (p.tapped ≤ most_taps) × AllReady p.tree p.taps p.tapped × (16384 ≤ length room.old) }
-    ensures { Stored room.old room.new 0 result (spec.taps_text p) }
+fn put_sheet(sheet: &SheetTree, room: &mut [u8]) -> usize
+    requires ready { All (Ready sheet.now.tree) sheet.now.taps.items }
+    requires long { 16384 ≤ length room.old }
+    ensures { Stored room.old room.new 0 result (spec.taps_text sheet.now) }
 {
-    let t = p.tree;
-    let taps = p.taps;
-    let first = text::put_line(room, 0, p.tapped);
-    tap_lines::put_taps(t, &taps, p.tapped, first, room)
+    let taps = sheet.taps.as_slice();
+    let next = text::put_line(room, 0, &[taps.len()]);
+    tap_lines::put_taps(&sheet.tree, taps, next, room)
 }
 
 // The text of what was read.
-fn put_read(p: SheetTree, room: &mut [u8]) -> usize
-    requires { spec.FromBytes p × (16384 ≤ length room.old) }
-    ensures { Stored room.old room.new 0 result (spec.tree_text p) }
+fn put_read(bytes: &[u8], room: &mut [u8]) -> usize
+    requires { 16384 ≤ length room.old }
+    ensures { Stored room.old room.new 0 result (text.output bytes.now) }
 {
-    let answer = p.answer;
-    match answer {
-        Answer::Refused(why, line) => refusal_lines::put_refused(why, line, room),
-        Answer::Sheet => put_sheet(p, room),
+    match sheet_tree::read_tree(bytes) {
+        Ok(sheet) => put_sheet(&sheet, room),
+        Err(refused) => refusal_lines::put_refused(refused, room),
     }
 }
 
-// The text that the bytes are answered with, in front of the room.
-pub fn answer_into(s: &[u8], room: &mut [u8]) -> Written
-    ensures answer { result ≡ spec.written_if (spec.roomy room.old) (length (text.output s.now)) }
-    ensures room { room.new ≡ spec.room_if (spec.roomy room.old) (text.output s.now) room.old }
+// The text that the bytes are answered with, in front of the room: how many bytes it has. Only a room that is too short is refused.
+pub fn answer_into(bytes: &[u8], room: &mut [u8]) -> Result<usize, Refusal>
+    ensures answer { result ≡ spec.written_if (spec.roomy room.old) (length (text.output bytes.now)) }
+    ensures room { room.new ≡ spec.room_if (spec.roomy room.old) (text.output bytes.now) room.old }
 {
-    if room.len() < 16384 {
-        return Written::ShortRoom;
-    }
-    let p = sheet_tree::read_tree(s);
-    let n = put_read(p, room);
-    Written::Bytes(n)
+    check(room.len() >= 16384, Refusal::ShortRoom)?;
+    let n = put_read(bytes, room);
+    Ok(n)
 }

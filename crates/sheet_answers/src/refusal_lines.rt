@@ -6,8 +6,9 @@ ghost use Rattle.sheet_calls.specs.Answers as text;
 ghost use Rattle.sheet_answers.specs.text.Text.{Stored};
 
 use crate::text;
-use sheet_format::Refusal;
+use sheet_format::{Refusal, Refused};
 
+// The number that stands on the line. Only the answer's text has it: a From on the reader's enum would say no more.
 fn number(why: Refusal) -> usize
     ensures { result ≡ number_of why }
 {
@@ -29,10 +30,11 @@ fn put_word(room: &mut [u8]) -> usize
 }
 
 // Inner: one line only, the word, the number and the line.
-pub(crate) fn put_refused(why: Refusal, line: usize, room: &mut [u8]) -> usize
-    requires { (line < 10000) × (16384 ≤ length room.old) }
-    ensures { Stored room.old room.new 0 result (text.read_text (sheet.refused (number_of why) line)) }
+pub(crate) fn put_refused(refused: Refused, room: &mut [u8]) -> usize
+    requires low { refused.line < 10000 }
+    requires long { 16384 ≤ length room.old }
+    ensures { Stored room.old room.new 0 result (text.read_text (sheet.refused (number_of refused.why) refused.line)) }
 {
     let at = put_word(room);
-    text::put_pair(room, at, number(why), line)
+    text::put_line(room, at, &[number(refused.why), refused.line])
 }

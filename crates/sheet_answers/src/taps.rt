@@ -1,38 +1,44 @@
 // A tap of a sheet on the sheet's tree: the place hit and its depth.
-ghost use Rattle.std.specs.Prelude.{◌≡◌, ◌≤◌, length};
-ghost use Rattle.tree_taps.specs.Taps.{Shown};
+ghost use Rattle.std.specs.Prelude.{◌≡◌, IfSome};
+ghost use Rattle.tree_verdicts.specs.Held.{Held};
+ghost use Rattle.tree_taps.specs.Taps.{Shown, best_of};
+ghost use Rattle.agreement_calls.proofs.requests.Tap.{tap_of};
+ghost use Rattle.sheet_answers.specs.tap_lines.Lines.{Ready, found};
 ghost use Rattle.sheet_answers.specs.taps.Taps as spec;
 
-// The place hit, or 0, and its depth, or 0.
+use sheet_format::TapLine;
+use tree_state::Tree;
+
+// The place hit, or 0, and its depth, or 0: the numbers of the tap's line.
 #[derive(Clone, Copy)]
 pub struct Answered {
     pub place: usize,
     pub depth: usize,
 }
 
-fn wide(d: u32) -> usize
-    ensures { result ≡ d }
+// Of the slot that a tap has found, if there is one. Place k is the node (k − 1, 1).
+fn answer_at(tree: &Tree, best: Option<u32>) -> Answered
+    requires held { Held tree.now }
+    requires shown { IfSome best (Shown tree.now) }
+    ensures { result ≡ spec.answered (tap_of tree.now (best_of best)) }
 {
-    d as usize
+    let Some(slot) = best else {
+        return Answered { place: 0, depth: 0 };
+    };
+    let at = tree.links.position(slot);
+    Answered {
+        place: slot as usize + 1,
+        depth: tree.links.depth[at] as usize,
+    }
 }
 
-// Inner: of the slot that a tap has found, 256 for none. Place k is the node (k − 1, 1).
-pub(crate) fn answer_at<'a>(
-    order: &'a [u32; 256],
-    depth: &'a [u32; 256],
-    n: usize,
-    best: usize,
-) -> Answered
-    requires { (n ≤ 256) × (length order.now ≡ 256) × (length depth.now ≡ 256) × ((best ≡ 256 → ⊥) → Shown order.now n best) }
-    ensures { result ≡ spec.answer_at order.now depth.now n best }
+// Inner: of a tap that nothing refuses, so that nothing is tested again.
+pub(crate) fn tapped(tree: &Tree, tap: TapLine) -> Answered
+    requires { Ready tree.now tap }
+    ensures { result ≡ spec.answered (found tree.now tap) }
 {
-    if best == 256 {
-        return Answered { place: 0, depth: 0 };
-    }
-    let at = link_table::position(order, n, best as u32);
-    let deep = wide(depth[at]);
-    Answered {
-        place: best + 1,
-        depth: deep,
-    }
+    let asked = sheet_records::taps::asked_of(tap);
+    let point = sheet_records::taps::point_of(tap);
+    let best = tree_taps::strongest(tree, asked, point);
+    answer_at(tree, best)
 }

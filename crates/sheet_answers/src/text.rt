@@ -1,5 +1,6 @@
-// The text of a sheet's answer, written into lent room: numbers in decimal, one space between, LF after each line.
-ghost use Rattle.std.specs.Prelude.{[], ◌∷◌, ◌+◌, ◌<◌, ◌≤◌, length};
+// The text of a sheet's answer, written into lent room: numbers in decimal, one space between, LF after each line. No heap: not a String of the
+// lines, and the room is the caller's, so that the position in it is handed on.
+ghost use Rattle.std.specs.Prelude.{◌+◌, ◌*◌, ◌<◌, ◌≤◌, length, All, ℕ};
 ghost use Rattle.sheet_calls.specs.Answers as answer;
 ghost use Rattle.sheet_answers.specs.text.Text as spec;
 
@@ -23,28 +24,17 @@ fn put_marked(room: &mut [u8], at: usize, n: usize, mark: u8) -> usize
     next + 1
 }
 
-// Inner: a line of one number.
-pub(crate) fn put_line(room: &mut [u8], at: usize, n: usize) -> usize
-    requires { (n < 10000) × (at + 5 ≤ length room.old) }
-    ensures { spec.Stored room.old room.new at result (answer.line_of (n ∷ [])) }
+// Inner: a line of one number or more.
+pub(crate) fn put_line<const N: usize>(room: &mut [u8], at: usize, numbers: &[usize; N]) -> usize
+    requires some { 0 < N }
+    requires small { All (λ (n : ℕ). n < 10000) numbers.now }
+    requires long { at + 5 * N ≤ length room.old }
+    ensures { spec.Stored room.old room.new at result (answer.line_of numbers.now) }
 {
-    put_marked(room, at, n, b'\n')
-}
-
-// Inner: a line of two numbers.
-pub(crate) fn put_pair(room: &mut [u8], at: usize, n: usize, m: usize) -> usize
-    requires { (n < 10000) × (m < 10000) × (at + 10 ≤ length room.old) }
-    ensures { spec.Stored room.old room.new at result (answer.line_of (n ∷ m ∷ [])) }
-{
-    let second = put_marked(room, at, n, b' ');
-    put_marked(room, second, m, b'\n')
-}
-
-// Inner: a line of three numbers.
-pub(crate) fn put_three(room: &mut [u8], at: usize, n: usize, m: usize, k: usize) -> usize
-    requires { (n < 10000) × (m < 10000) × (k < 10000) × (at + 15 ≤ length room.old) }
-    ensures { spec.Stored room.old room.new at result (answer.line_of (n ∷ m ∷ k ∷ [])) }
-{
-    let second = put_marked(room, at, n, b' ');
-    put_pair(room, second, m, k)
+    let last = N - 1;
+    let mut next = at;
+    for i in 0..last {
+        next = put_marked(room, next, numbers[i], b' ');
+    }
+    put_marked(room, next, numbers[last], b'\n')
 }

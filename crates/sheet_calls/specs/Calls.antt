@@ -1,6 +1,7 @@
 -- The calls that a sheet stands for (document 01): "The program reads a sheet .., inserts, commits". An insert for each place, in order, its clip
 -- given with it; then one commit. On a fresh tree place k is the node (k − 1, 1).
-use Rattle.std.specs.Prelude.{ℕ, zero, suc, ◌%◌, ◌&&◌, cond, List, [], ◌∷◌, ◌++◌, ltb, ℤ, pos, neg_ℤ, nat_abs, Float, replicate}
+use Rattle.index_types.specs.declared.NodeId.{NodeId}
+use Rattle.std.specs.Prelude.{ℕ, zero, suc, ◌%◌, ◌&&◌, cond, List, [], ◌∷◌, ◌++◌, ltb, ℤ, pos, neg_ℤ, nat_abs, Float, replicate, None, Some, Option}
 use Rattle.std.specs.Float.{binary64}
 use Rattle.std.specs.Float.Ieee.{of_int}
 use Rattle.numbers.specs.Rounded as fl
@@ -10,8 +11,6 @@ use Rattle.geometry.specs.declared.affine.Affine.{Affine}
 use Rattle.geometry_clips.specs.declared.clip.Clip.{Clip}
 use Rattle.geometry_clips.specs.declared.clip.Clip.TheVariants as clip
 use Rattle.tree_types.specs.declared.LocalNode.{LocalNode}
-use Rattle.tree_types.specs.declared.OptionNodeId.{OptionNodeId}
-use Rattle.tree_types.specs.declared.OptionNodeId.TheVariants as node
 use Rattle.tree_types.specs.Local.{flags, default_local, with_bounds, with_slop, with_transform, with_clip, with_level, with_flags}
 use Rattle.plan.specs.Calls as call
 use Rattle.plan.specs.Calls.{Call, Outcome}
@@ -82,9 +81,9 @@ local_of p c =
 -- ---- the calls
 
 -- "parent (0 none, else an earlier place)"
-abbrev pub parent_at : ℕ → OptionNodeId
-parent_at zero = node.None
-parent_at (suc k) = node.Some record { 0 = k; 1 = 1 }
+abbrev pub parent_at : ℕ → Option NodeId
+parent_at zero = None
+parent_at (suc k) = Some record { 0 = k; 1 = 1 }
 
 -- place k, with its clip
 unfoldable pub insert_of : List (List ℤ) → ℕ → PlaceLine → Call

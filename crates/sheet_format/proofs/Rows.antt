@@ -1,4 +1,4 @@
--- Sheets worked out on the definitions: document 01's example, and refusals of every kind with their lines.
+-- Sheets worked out on the definitions: the example that the sheet's description gives, and refusals of every kind with their lines.
 use Prim.Native.Nat.{ℕ}
 use Prim.Native.Char.{code}
 use Prim.Native.String.{String, [] as end, ◌∷◌ as ◌then◌}
@@ -21,7 +21,7 @@ unfolding read_sheet counted section judge place_of place_in_range parent_earlie
     fields numbers_of words_of decimal positive digits_after
 computed = tt
 
--- ---- document 01's example
+-- ---- the example that the sheet's description gives
 
 abbrev n : ℕ → ℤ
 n k = pos k

@@ -1,4 +1,5 @@
 -- On the box tree every call of a good sheet is accepted, by demand 3; and each tap after them answers the plan's definition on the redacted plan.
+use Rattle.std.specs.Prelude.{Ok}
 use Prim.Native.Nat.{ℕ, suc, ◌<◌}
 use mathlib.Core.Path.{◌≡◌, refl, sym, ap, ◌∙◌}
 use mathlib.Core.Bool.{true}
@@ -8,9 +9,7 @@ use lib.ListN.{length, take, get_or, replicate}
 use Rattle.geometry.specs.declared.point.Point.{Point}
 use Rattle.tree_types.specs.declared.NodeFlags.{NodeFlags}
 use Rattle.tree_types.specs.Local.{known}
-use Rattle.tree_state.specs.declared.Verdict.{Verdict}
-use Rattle.tree_state.specs.declared.Verdict.TheVariants as is
-use Rattle.tree_state.specs.Tree.{fresh_tree}
+use Rattle.tree_state.specs.Tree.{fresh_tree, Verdict}
 use Rattle.tree_state.specs.Sound.{sound_tree}
 use Rattle.tree_steps.specs.Requests as request
 use Rattle.tree_steps.specs.Setters as set
@@ -37,7 +36,7 @@ use Rattle.sheet_laws.specs.Built.{tree_up_to, tree_of}
 
 module _ (calls : List Call) (c : Call) where
   -- after any calls from fresh
-  pub accepted_too : call.refusal (run call.step empty calls) c ≡ 0 → verdict (run tree.step fresh_tree calls) c ≡ is.Accepted
+  pub accepted_too : call.refusal (run call.step empty calls) c ≡ 0 → verdict (run tree.step fresh_tree calls) c ≡ Ok tt
   accepted_too h =
       let t = run tree.step fresh_tree calls in
       let p = run call.step empty calls in
@@ -58,7 +57,7 @@ module _ (s : Sheet) (g : Good s) where
   abbrev pub next_call : ℕ → Call
   next_call j = insert_of s.clips (suc j) (place_of (get_or s.places j []))
 
-  pub insert_accepted : (j : ℕ) → j < length s.places → verdict (tree_up_to s j) (next_call j) ≡ is.Accepted
+  pub insert_accepted : (j : ℕ) → j < length s.places → verdict (tree_up_to s j) (next_call j) ≡ Ok tt
   unfolding tree_up_to
   insert_accepted j lt = accepted_too (inserts_from s.clips 1 (take j s.places)) (next_call j) (next_accepted s g j lt)
 
@@ -70,7 +69,7 @@ module _ (s : Sheet) (g : Good s) where
       ∙ step_is (tree_up_to s j) (next_call j)
       ∙ ap (λ (v : Verdict). set.tree_if v (accepted (tree_up_to s j) (next_call j)) (tree_up_to s j)) (insert_accepted j lt)
 
-  pub commit_accepted : verdict (tree_up_to s (length s.places)) (call.commit room) ≡ is.Accepted
+  pub commit_accepted : verdict (tree_up_to s (length s.places)) (call.commit room) ≡ Ok tt
   unfolding tree_up_to
   commit_accepted =
       let calls = inserts_from s.clips 1 (take (length s.places) s.places) in
@@ -99,7 +98,7 @@ module _ (s : Sheet) (asked : NodeFlags) (h : known asked ≡ true) where
   abbrev ids : List ℕ
   ids = replicate 512 0
 
-  pub tap_accepted : request.request_verdict (tree_of s) asked 512 ≡ is.Accepted
+  pub tap_accepted : request.request_verdict (tree_of s) asked 512 ≡ Ok tt
   unfolding tree_of verdict call.refusal plan_of
   tap_accepted = accepted_too (calls_of s) (call.request (call.hit_test_point (record { x = nan; y = nan })) asked ids) (request_accepted s asked h)
 

@@ -1,5 +1,5 @@
 -- The tree of a sheet: fresh, then the sheet's calls.
-use Rattle.std.specs.Prelude.{ℕ, List, [], ℤ, take}
+use Rattle.std.specs.Prelude.{ℕ, take}
 use Rattle.tree_state.specs.declared.Tree.{Tree}
 use Rattle.tree_state.specs.Tree.{fresh_tree}
 use Rattle.tree_run.specs.Run as tree
@@ -13,7 +13,3 @@ tree_up_to s j = run tree.step fresh_tree (inserts_from s.clips 1 (take j s.plac
 
 unfoldable pub tree_of : Sheet → Tree
 tree_of s = run tree.step fresh_tree (calls_of s)
-
--- a sheet's places and clips, without its taps
-abbrev pub untapped : List (List ℤ) → List (List ℤ) → Sheet
-untapped places clips = record { places = places; clips = clips; taps = [] }

@@ -11,7 +11,9 @@ use lib.IntN.{ℤ, pos, negsuc, neg_ℤ}
 use lib.ListN.{length, get_or, take, drop, drop_of_length-le}
 use lib.Seq.{drop-cons, take-length}
 use Rattle.sheet_lines.specs.Lines.{Decimal, malformed, whole, is_digit, digits_after, positive, negated, zero_then, decimal}
-use Rattle.sheet_lines.specs.Saturated.{saturated, saturated_decimal}
+use Rattle.std.proofs.Common.{◌⊎◌, inl, inr}
+use Rattle.std.specs.Bool.{then_some}
+use Rattle.sheet_lines.specs.Saturated.{saturated, saturated_decimal, told_word}
 
 cap_step : (n d : ℕ) → min (n * 10 + d) 1000000000000000 ≡ min (min n 1000000000000000 * 10 + d) 1000000000000000
 cap_step n d = omega arith
@@ -44,15 +46,12 @@ module _ (s : List ℕ) (n i : ℕ) (h : i < length s) where
       rw (drop-cons s i 0 h, le-leb 48 (get_or s i 0) lo, le-leb (get_or s i 0) 57 hi, e, add-one i)
       (sym (after_cap (n * 10 + (get_or s i 0 - 48)) (drop (suc i) s)))
 
-  pub below_digit : get_or s i 0 < 48 → after n (drop i s) ≡ malformed
+  pub no_digit : get_or s i 0 < 48 ⊎ 57 < get_or s i 0 → malformed ≡ after n (drop i s)
   unfolding digits_after saturated_decimal
-  below_digit lo = rw (drop-cons s i 0 h, lt-leb 48 (get_or s i 0) lo)
+  no_digit (inl lo) = rw (drop-cons s i 0 h, lt-leb 48 (get_or s i 0) lo)
+  no_digit (inr hi) = rw (drop-cons s i 0 h, le-leb 48 (get_or s i 0) (omega arith), lt-leb (get_or s i 0) 57 hi)
 
-  pub above_digit : 57 < get_or s i 0 → after n (drop i s) ≡ malformed
-  unfolding digits_after saturated_decimal
-  above_digit hi = rw (drop-cons s i 0 h, le-leb 48 (get_or s i 0) (omega arith), lt-leb (get_or s i 0) 57 hi)
-
-pub all_digits : (s : List ℕ) (n i : ℕ) → n ≤ 1000000000000000 → length s ≤ i → after n (drop i s) ≡ whole (pos n)
+pub all_digits : (s : List ℕ) (n i : ℕ) → n ≤ 1000000000000000 → length s ≤ i → whole (pos n) ≡ after n (drop i s)
 unfolding digits_after saturated_decimal saturated
 all_digits s n i c h = let e : min n 1000000000000000 ≡ n = omega arith in rw (drop_of_length-le s h, e)
 
@@ -69,13 +68,9 @@ unfolding saturated_decimal
 sat_negated malformed = refl
 sat_negated (whole z) = ap whole (sat_neg z)
 
-told_negated : (g : Bool) (n : ℕ) → cond g (whole (neg_ℤ (pos n))) malformed ≡ negated (cond g (whole (pos n)) malformed)
-told_negated true n = refl
-told_negated false n = refl
-
 -- ---- a word by its first byte
 
-pub no_digits : (s : List ℕ) → length s ≡ 0 → malformed ≡ saturated_decimal (positive s)
+pub no_digits : (s : List ℕ) → length s < 1 → malformed ≡ saturated_decimal (positive s)
 unfolding positive saturated_decimal
 no_digits [] h = refl
 no_digits (b ∷ s) h = absurd (omega arith)
@@ -85,12 +80,12 @@ unfolding positive saturated_decimal
 zero_first [] h = refl
 zero_first (b ∷ s) h = rw (eq-eqb b 48 h)
 
-pub no_zero_first : (s : List ℕ) → (length s ≡ 0 → ⊥) → (get_or s 0 0 ≡ 48 → ⊥) → after 0 s ≡ saturated_decimal (positive s)
+pub no_zero_first : (s : List ℕ) → 1 ≤ length s → (get_or s 0 0 ≡ 48 → ⊥) → after 0 s ≡ saturated_decimal (positive s)
 unfolding positive
-no_zero_first [] l h = absurd (l refl)
+no_zero_first [] l h = absurd (omega arith)
 no_zero_first (b ∷ s) l h = rw (ne_eqb b 48 h)
 
-pub no_word : (s : List ℕ) → length s ≡ 0 → malformed ≡ saturated_decimal (decimal s)
+pub no_word : (s : List ℕ) → length s < 1 → malformed ≡ saturated_decimal (decimal s)
 unfolding decimal saturated_decimal
 no_word [] h = refl
 no_word (b ∷ s) h = absurd (omega arith)
@@ -98,26 +93,26 @@ no_word (b ∷ s) h = absurd (omega arith)
 tail_whole : (b : ℕ) (s : List ℕ) → take (suc (length s) - 1) s ≡ s
 tail_whole b s = let e : suc (length s) - 1 ≡ length s = omega arith in rw e (take-length s)
 
-pub minus_first : (s : List ℕ) → (length s ≡ 0 → ⊥) → get_or s 0 0 ≡ 45 → (g : Bool) (n : ℕ)
-    → cond g (whole (pos n)) malformed ≡ saturated_decimal (positive (take (length s - 1) (drop 1 s)))
-    → cond g (whole (neg_ℤ (pos n))) malformed ≡ saturated_decimal (decimal s)
+pub minus_first : (s : List ℕ) → 1 ≤ length s → get_or s 0 0 ≡ 45 → (d : Decimal)
+    → d ≡ saturated_decimal (positive (take (length s - 1) (drop 1 s))) → negated d ≡ saturated_decimal (decimal s)
 unfolding decimal
-minus_first [] l h g n e = absurd (l refl)
-minus_first (b ∷ s) l h g n e =
+minus_first [] l h d e = absurd (omega arith)
+minus_first (b ∷ s) l h d e =
     rw (eq-eqb b 45 h)
-    (told_negated g n ∙ ap negated (e ∙ ap (λ t. saturated_decimal (positive t)) (tail_whole b s)) ∙ sym (sat_negated (positive s)))
+    (ap negated (e ∙ ap (λ t. saturated_decimal (positive t)) (tail_whole b s)) ∙ sym (sat_negated (positive s)))
 
-zero_alone : (s : List ℕ) → cond (eqb (suc (length s)) 1) (whole (pos 0)) malformed ≡ saturated_decimal (zero_then s)
+zero_alone : (s : List ℕ) → told_word (then_some (eqb (length s) 0) (pos 0)) ≡ saturated_decimal (zero_then s)
 unfolding saturated_decimal saturated
 zero_alone [] = refl
-zero_alone (b ∷ s) = rw (ne_eqb (suc (suc (length s))) 1 (λ e. omega arith))
+zero_alone (b ∷ s) = rw (ne_eqb (suc (length s)) 0 (λ e. omega arith))
 
-pub zero_word : (s : List ℕ) → (length s ≡ 0 → ⊥) → get_or s 0 0 ≡ 48 → cond (eqb (length s) 1) (whole (pos 0)) malformed ≡ saturated_decimal (decimal s)
+pub zero_word : (s : List ℕ) → 1 ≤ length s → get_or s 0 0 ≡ 48
+    → told_word (then_some (eqb (length (take (length s - 1) (drop 1 s))) 0) (pos 0)) ≡ saturated_decimal (decimal s)
 unfolding decimal
-zero_word [] l h = absurd (l refl)
-zero_word (b ∷ s) l h = let m : b ≡ 45 → ⊥ = λ e. omega arith in rw (ne_eqb b 45 m, eq-eqb b 48 h) (zero_alone s)
+zero_word [] l h = absurd (omega arith)
+zero_word (b ∷ s) l h = let m : b ≡ 45 → ⊥ = λ e. omega arith in rw (ne_eqb b 45 m, eq-eqb b 48 h, tail_whole b s) (zero_alone s)
 
-pub plus_first : (s : List ℕ) → (length s ≡ 0 → ⊥) → (get_or s 0 0 ≡ 45 → ⊥) → (get_or s 0 0 ≡ 48 → ⊥) → saturated_decimal (positive s) ≡ saturated_decimal (decimal s)
+pub plus_first : (s : List ℕ) → 1 ≤ length s → (get_or s 0 0 ≡ 45 → ⊥) → (get_or s 0 0 ≡ 48 → ⊥) → saturated_decimal (positive s) ≡ saturated_decimal (decimal s)
 unfolding decimal
-plus_first [] l m h = absurd (l refl)
+plus_first [] l m h = absurd (omega arith)
 plus_first (b ∷ s) l m h = rw (ne_eqb b 45 m, ne_eqb b 48 h)

@@ -1,5 +1,5 @@
 -- The first line of some bytes, by the place of its LF. Assumes nothing.
-use mathlib.Core.Path.{◌≡◌, refl, ap, ◌∙◌}
+use mathlib.Core.Path.{◌≡◌, refl, ap}
 use mathlib.Core.Bool.{Bool, true, false, cond}
 use mathlib.Core.List.{List, [], ◌∷◌}
 use Prim.Native.Nat.{ℕ, suc, ◌+◌, ◌-◌, ◌≤◌, ◌<◌}
@@ -10,9 +10,9 @@ use lib.IntN.{ℤ}
 use lib.ListN.{length, take, drop, length-drop, drop_of_length-le}
 use lib.Seq.{take-length, length-take-le, drop-drop}
 use Rattle.byte_search.specs.Bytes.{slice, index_of, index_after}
-use Rattle.sheet_lines.specs.Lines.{line_width, Numbers, malformed, numbers, fields, without, line, beginning, cut, behind}
-use Rattle.sheet_lines.specs.Saturated.{saturated_numbers, unfit, row, followed, first_of, first_fields, told_line}
-use Rattle.sheet_lines.specs.declared.LineRow.{LineRow}
+use Rattle.sheet_lines.specs.Lines.{line_width, Numbers, fields, without, line, beginning, cut, behind}
+use Rattle.std.specs.Prelude.{Option, None, Some}
+use Rattle.sheet_lines.specs.Saturated.{saturated_numbers, unfit, followed, first_of, first_fields, told_row, told_first}
 
 ends : (e : Bool) (b : ℕ) (s : List ℕ) → (index_of 10 s < length s → cut s ≡ line (take (index_of 10 s) s) (drop (suc (index_of 10 s)) s))
     → index_after e (index_of 10 s) < length (b ∷ s)
@@ -81,11 +81,6 @@ module _ (s : List ℕ) (at e width : ℕ) (q : e ≡ at + index_of 10 (slice at
       let b : e + 1 ≡ at + suc i = omega (arith, place) in
       rw (le-leb width line_width w, cut_at (drop at s) l, a, b, drop-drop (suc i) at s)
 
--- a row that is none
-pub no_line_told : (s : List ℕ) (at next width : ℕ) (r : LineRow) → r.good ≡ false → r.next ≡ next → (unfit ≡ first_fields width (drop at s)) × (next ≡ behind at (cut (drop at s)))
-    → (told_line width s r ≡ first_fields width (drop at s)) × (r.next ≡ behind at (cut (drop at s)))
-no_line_told s at next width r g n e = (rw g e.0, n ∙ e.1)
-
-pub told : (g : Bool) (zs : List ℤ) (rest : List ℕ) (ns : Numbers) → cond g (numbers zs) malformed ≡ ns → cond g (row zs rest) unfit ≡ followed rest ns
-told true zs rest ns e = ap (followed rest) e
-told false zs rest ns e = ap (followed rest) e
+pub told : (width next : ℕ) (s : List ℕ) (r : Option (List ℤ)) (ns : Numbers) → told_row width r ≡ ns → told_first width (drop next s) r ≡ followed (drop next s) ns
+told width next s None ns e = ap (followed (drop next s)) e
+told width next s (Some zs) ns e = ap (followed (drop next s)) e

@@ -1,9 +1,6 @@
--- Numbers of any size in 64 bits: a number beyond 10^15 counts as 10^15, one below -10^15 as -10^15. What the structs of the code stand for.
-use Rattle.std.specs.Prelude.{ℕ, min, cond, List, map, leb, ℤ, pos, negsuc, take, drop}
+-- Numbers of any size in 64 bits: a number beyond 10^15 counts as 10^15, one below -10^15 as -10^15. What the code's options stand for.
+use Rattle.std.specs.Prelude.{ℕ, min, cond, Option, Some, None, List, map, leb, ℤ, pos, negsuc, take, drop}
 use Rattle.sheet_lines.specs.Lines.{line_width, Decimal, Numbers, malformed, whole, numbers, fields, Cut, without, line, cut}
-use Rattle.sheet_lines.specs.declared.Digits.{Digits}
-use Rattle.sheet_lines.specs.declared.Word.{Word}
-use Rattle.sheet_lines.specs.declared.Row.{Row}
 use Rattle.sheet_lines.specs.declared.LineRow.{LineRow}
 
 unfoldable pub saturated : ℤ → ℤ
@@ -36,17 +33,25 @@ first_of width (line s rest) = followed rest (saturated_numbers (fields width s)
 unfoldable pub first_fields : ℕ → List ℕ → First
 first_fields width s = cond (leb width line_width) (first_of width (cut s)) unfit
 
--- ---- what the structs stand for
+-- ---- what the code's options stand for
 
-abbrev pub told_digits : Digits → Decimal
-told_digits d = cond d.good (whole (pos d.n)) malformed
+abbrev pub told_digits : Option ℕ → Decimal
+told_digits None = malformed
+told_digits (Some n) = whole (pos n)
 
-abbrev pub told_word : Word → Decimal
-told_word w = cond w.good (whole w.z) malformed
+abbrev pub told_word : Option ℤ → Decimal
+told_word None = malformed
+told_word (Some z) = whole z
 
-abbrev pub told_row : ℕ → Row → Numbers
-told_row width r = cond r.good (numbers (take width r.row)) malformed
+abbrev pub told_row : ℕ → Option (List ℤ) → Numbers
+told_row width None = malformed
+told_row width (Some zs) = numbers (take width zs)
+
+-- a row, and the bytes behind its line
+abbrev pub told_first : ℕ → List ℕ → Option (List ℤ) → First
+told_first width rest None = unfit
+told_first width rest (Some zs) = row (take width zs) rest
 
 -- the line that was read among the bytes s
 abbrev pub told_line : ℕ → List ℕ → LineRow → First
-told_line width s r = cond r.good (row (take width r.row) (drop r.next s)) unfit
+told_line width s r = told_first width (drop r.next s) r.row

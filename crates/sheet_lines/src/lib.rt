@@ -1,190 +1,115 @@
 // Lines of whole numbers, as the plan sheet has them.
 #![tactic(auto)]
 
-ghost use Rattle.std.specs.Prelude.{◌≡◌, false, ◌≤◌, min, pos, neg_ℤ, drop};
+ghost use Rattle.std.specs.Prelude.{◌≡◌, ◌≤◌, drop, IfSome};
 ghost use Rattle.sheet_lines.specs.Lines as spec;
 ghost use Rattle.sheet_lines.specs.Saturated.{saturated_decimal, saturated_numbers, first_fields, told_digits, told_word, told_row, told_line};
 
 // The most numbers that a line has.
 pub const LINE_WIDTH: usize = 11;
 
-// What digits spell, if `good`; a number beyond 10^15 counts as 10^15, and so below.
-#[derive(Clone, Copy)]
-pub struct Digits {
-    pub good: bool,
-    pub n: u64,
-}
+// A number beyond this, 10^15, counts as this, and so below its negative.
+const MOST: u64 = 1_000_000_000_000_000;
 
-// What a word spells, if `good`.
-#[derive(Clone, Copy)]
-pub struct Word {
-    pub good: bool,
-    pub z: i64,
-}
-
-// A line's numbers, in the first places of `row`, if `good`.
-#[derive(Clone, Copy)]
-pub struct Row {
-    pub good: bool,
-    pub row: [i64; LINE_WIDTH],
-}
-
-// A line's numbers, in the first places of `row`, if `good`; and the position behind its LF, good or not, or where there is no LF the position that was asked.
+// A line's numbers, in the first places of `row`, if it is one; and, whether or not it is, the position behind its LF, or where there is no LF
+// the position that was asked.
+// How many numbers a line has is known only when it is read, and its memory is fixed: so the row has a place for each that a line may have.
 #[derive(Clone, Copy)]
 pub struct LineRow {
-    pub good: bool,
-    pub row: [i64; LINE_WIDTH],
+    pub row: Option<[i64; LINE_WIDTH]>,
     pub next: usize,
 }
 
-fn capped(n: u64) -> u64
-    ensures { result ≡ min n 1000000000000000 }
+// What digits spell, none or more.
+fn spelt(digits: &[u8]) -> Option<u64>
+    ensures capped { IfSome result (λ n. n ≤ 1000000000000000) }
+    ensures value { told_digits result ≡ saturated_decimal (spec.digits_after 0 digits.now) }
 {
-    if n < 1_000_000_000_000_000 {
-        return n;
-    }
-    1_000_000_000_000_000 // 10^15
-}
-
-// Digits, none or more.
-fn spelt(s: &[u8]) -> Digits
-    ensures { (result.n ≤ 1000000000000000) × (told_digits result ≡ saturated_decimal (spec.digits_after 0 s.now)) }
-{
-    let mut n = 0u64;
-    let mut i = 0;
-    while i < s.len() {
-        let b = s[i];
-        if b < b'0' {
-            return Digits { good: false, n: 0 };
+    let mut n = 0;
+    for b in digits {
+        if !b.is_ascii_digit() {
+            return None;
         }
-        if b > b'9' {
-            return Digits { good: false, n: 0 };
-        }
-        let d = (b - b'0') as u64;
-        n = capped(n * 10 + d);
-        i += 1;
+        n = u64::min(n * 10 + u64::from(*b - b'0'), MOST);
     }
-    Digits { good: true, n }
+    Some(n)
 }
 
-// Digits, the first of them not 0.
-fn positive(s: &[u8]) -> Digits
-    ensures { (result.n ≤ 1000000000000000) × (told_digits result ≡ saturated_decimal (spec.positive s.now)) }
+// What digits spell, the first of them not 0.
+fn positive(digits: &[u8]) -> Option<u64>
+    ensures capped { IfSome result (λ n. n ≤ 1000000000000000) }
+    ensures value { told_digits result ≡ saturated_decimal (spec.positive digits.now) }
 {
-    if s.len() == 0 {
-        return Digits { good: false, n: 0 };
+    let [first, ..] = digits else {
+        return None;
+    };
+    if *first == b'0' {
+        return None;
     }
-    if s[0] == b'0' {
-        return Digits { good: false, n: 0 };
-    }
-    spelt(s)
-}
-
-fn plus(n: u64) -> i64
-    requires { n ≤ 1000000000000000 }
-    ensures { result ≡ pos n }
-{
-    n as i64
-}
-
-fn minus(n: u64) -> i64
-    requires { n ≤ 1000000000000000 }
-    ensures { result ≡ neg_ℤ (pos n) }
-{
-    let z = n as i64;
-    0 - z
+    spelt(digits)
 }
 
 // A word's number: `0`, or digits, the first of them not 0, with or without `-` before them.
-fn number_of(s: &[u8]) -> Word
-    ensures { told_word result ≡ saturated_decimal (spec.decimal s.now) }
+fn number_of(word: &[u8]) -> Option<i64>
+    ensures { told_word result ≡ saturated_decimal (spec.decimal word.now) }
 {
-    if s.len() == 0 {
-        return Word { good: false, z: 0 };
+    let [first, rest @ ..] = word else {
+        return None;
+    };
+    if *first == b'-' {
+        let n = positive(rest)?;
+        return Some(-(n as i64));
     }
-    if s[0] == b'-' {
-        let d = positive(&s[1..]);
-        let z = minus(d.n);
-        return Word { good: d.good, z };
+    if *first == b'0' {
+        return rest.is_empty().then_some(0);
     }
-    if s[0] == 48 {
-        return Word {
-            good: s.len() == 1,
-            z: 0,
-        };
-    }
-    let d = positive(s);
-    let z = plus(d.n);
-    Word { good: d.good, z }
-}
-
-fn no_row() -> Row
-    ensures { result.good ≡ false }
-{
-    Row {
-        good: false,
-        row: [0i64; LINE_WIDTH],
-    }
+    let n = positive(word)?;
+    Some(n as i64)
 }
 
 // The numbers of a line of `width` words.
-fn row_of(line: &[u8], width: usize) -> Row
+fn row_of(line: &[u8], width: usize) -> Option<[i64; LINE_WIDTH]>
     requires { width ≤ spec.line_width }
     ensures { told_row width result ≡ saturated_numbers (spec.fields width line.now) }
 {
-    let mut row = [0i64; LINE_WIDTH];
+    let mut row = [0; LINE_WIDTH];
     let mut at = 0;
-    let mut j = 0;
-    while j < width {
+    for j in 0..width {
         if at > line.len() {
-            return no_row();
+            return None;
         }
         let end = byte_search::find(line, at, line.len(), b' ');
-        let w = number_of(&line[at..end]);
-        if !w.good {
-            return no_row();
-        }
-        let z = w.z;
-        row[j] = z;
-        j += 1;
+        row[j] = number_of(&line[at..end])?;
         at = end + 1;
     }
     if at <= line.len() {
-        return no_row();
+        return None;
     }
-    Row { good: true, row }
-}
-
-fn no_line(next: usize) -> LineRow
-    ensures { (result.good ≡ false) × (result.next ≡ next) }
-{
-    LineRow {
-        good: false,
-        row: [0i64; LINE_WIDTH],
-        next,
-    }
+    Some(row)
 }
 
 // The line of `width` numbers that begins at `at`, and the position behind its LF. A line has its LF, and at most LINE_WIDTH numbers.
 pub fn fields_at(s: &[u8], at: usize, width: usize) -> LineRow
-    ensures { (told_line width s.now result ≡ first_fields width (drop at s.now))
-        × (result.next ≡ spec.behind at (spec.cut (drop at s.now))) }
+    ensures row { told_line width s.now result ≡ first_fields width (drop at s.now) }
+    ensures next { result.next ≡ spec.behind at (spec.cut (drop at s.now)) }
 {
     if at > s.len() {
-        return no_line(at);
+        return LineRow {
+            row: None,
+            next: at,
+        };
     }
     let end = byte_search::find(s, at, s.len(), b'\n');
     if end >= s.len() {
-        return no_line(at);
+        return LineRow {
+            row: None,
+            next: at,
+        };
     }
+    let next = end + 1;
     if width > LINE_WIDTH {
-        return no_line(end + 1);
+        return LineRow { row: None, next };
     }
-    let r = row_of(&s[at..end], width);
-    let row = r.row;
-    LineRow {
-        good: r.good,
-        row,
-        next: end + 1,
-    }
+    let row = row_of(&s[at..end], width);
+    LineRow { row, next }
 }

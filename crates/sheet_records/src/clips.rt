@@ -12,7 +12,7 @@ pub fn clip_on(c: ClipLine) -> Clip
     requires { clip_in_range c ≡ true }
     ensures { result ≡ call.clip_on c }
 {
-    if sheet_format::equal(c.x0, c.x1) & sheet_format::equal(c.y0, c.y1) {
+    if (c.x0 == c.x1) & (c.y0 == c.y1) {
         return Clip::None;
     }
     let x0 = values::real(c.x0);

@@ -37,6 +37,7 @@ fn shifted(m: Linear, x: i64, y: i64) -> Affine
     Affine { a, b, c, d, e, f }
 }
 
+// The four numbers stand side by side on a line, and the lines' records have them so: a record of them would be no plainer here.
 fn bounds(x0: i64, y0: i64, x1: i64, y1: i64) -> Rect
     ensures { result ≡ rect (call.real x0) (call.real y0) (call.real x1) (call.real y1) }
 {

@@ -1,5 +1,5 @@
 // Orientations in whole numbers, by steps.
-ghost use Rattle.std.specs.Prelude.{◌≡◌, ◌≤◌, neg_ℤ, unsigned_abs};
+ghost use Rattle.std.specs.Prelude.{◌≡◌};
 ghost use Rattle.sheet_calls.specs.Calls as call;
 ghost use Rattle.sheet_calls.specs.Good.{Small};
 ghost use Rattle.sheet_records.specs.orientations.Turns as spec;
@@ -34,24 +34,15 @@ fn start(k: u64) -> Linear
     }
 }
 
-fn negated(x: i64) -> i64
-    requires { unsigned_abs x ≤ 1 }
-    ensures { result ≡ neg_ℤ x }
-{
-    -x
-}
-
 // (x, y) becomes (−y, x).
 fn turned(m: Linear) -> Linear
     requires { Small (spec.linear m) }
     ensures { spec.linear result ≡ call.turned (spec.linear m) }
 {
-    let a = negated(m.b);
-    let c = negated(m.d);
     Linear {
-        a,
+        a: -m.b,
         b: m.a,
-        c,
+        c: -m.d,
         d: m.c,
     }
 }
@@ -60,12 +51,9 @@ fn turned(m: Linear) -> Linear
 pub(crate) fn orientation(k: u64) -> Linear
     ensures { spec.linear result ≡ call.orientation k }
 {
-    let n = k % 4;
     let mut m = start(k);
-    let mut i = 0;
-    while i < n {
+    for _ in 0..k % 4 {
         m = turned(m);
-        i += 1;
     }
     m
 }

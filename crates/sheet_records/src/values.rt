@@ -10,7 +10,7 @@ pub(crate) fn real(x: i64) -> f64
     std::num::nearest_i64_to_f64(x)
 }
 
-// Inner: a level.
+// Inner: a level. It is in range, so that a TryFrom would only add an error that cannot come.
 pub(crate) fn level(x: i64) -> i32
     requires { mag x ≤ 2147483647 }
     ensures { result ≡ x }
@@ -18,7 +18,7 @@ pub(crate) fn level(x: i64) -> i32
     x as i32
 }
 
-// Inner: a flag byte, or an orientation.
+// Inner: a flag byte, or an orientation. It is in range, so that a TryFrom would only add an error that cannot come.
 pub(crate) fn small(x: i64) -> u8
     requires { (x ≡ pos (unsigned_abs x)) × (unsigned_abs x ≤ 7) }
     ensures { result ≡ unsigned_abs x }

@@ -1,2 +1,2 @@
+pub mod Inserts
 pub mod Steps
-pub mod Tables

@@ -1,59 +1,48 @@
 // The tree of a sheet: its inserts, then one commit. Nothing that reading has tested is tested again: every call of a good sheet is accepted.
 #![tactic(auto)]
 
-pub mod arguments;
-pub mod places;
-pub mod stores;
+pub mod arguments; // what an insert is handed
+pub mod places; // the inserts
 
 ghost use Rattle.std.specs.Prelude.{◌≡◌};
+ghost use Rattle.sheet_format.specs.Sheet.{read_sheet};
+ghost use Rattle.sheet_format.specs.Told.{sheet_of};
 ghost use Rattle.sheet_calls.specs.Good.{Good};
 ghost use Rattle.sheet_laws.specs.Built.{tree_of};
-ghost use Rattle.sheet_tree.specs.Trees.{Yields};
-ghost use Rattle.sheet_tree.specs.places.Rows as spec;
+ghost use Rattle.sheet_tree.specs.Trees as spec;
 
-use sheet_format::{Answer, CLIP_NUMBERS, PLACE_NUMBERS, TAP_NUMBERS};
+use arrayvec::ArrayVec;
+use sheet_format::{MOST_TAPS, Parsed, Refused, TapLine};
 use tree_commit::work;
 use tree_state::Tree;
 
-// The committed tree of a sheet and the sheet's taps; or the refusal, with a fresh tree and no taps: look at `answer` first.
-// What `taps` holds behind the first `tapped` is the program's choice.
-#[derive(Clone, Copy)]
+// The committed tree of a sheet, and the sheet's taps.
+#[derive(Drop)]
 pub struct SheetTree {
-    pub answer: Answer,
     pub tree: Tree,
-    pub taps: [i64; TAP_NUMBERS],
-    pub tapped: usize,
+    pub taps: ArrayVec<TapLine, MOST_TAPS>,
 }
 
-// The tree of a good sheet, n places and m clips in their tables.
-fn build<'a>(
-    places: &'a [i64; PLACE_NUMBERS],
-    n: usize,
-    clips: &'a [i64; CLIP_NUMBERS],
-    m: usize,
-) -> Tree
-    requires { Good (spec.sheet_of places.now n clips.now m) }
-    ensures { result ≡ tree_of (spec.sheet_of places.now n clips.now m) }
+// The tree of a good sheet.
+fn build(sheet: &Parsed) -> Tree
+    requires { Good (sheet_of sheet.now) }
+    ensures { result ≡ tree_of (sheet_of sheet.now) }
 {
-    let t = places::insert_all(places, n, clips, m);
+    let mut tree = tree_state::fresh();
+    places::insert_all(&mut tree, sheet);
     let mut room = [0.0; 2048];
-    let done = work::commit_sound(t, &mut room);
-    let tree = done.tree;
+    work::commit_sound(&mut tree, &mut room);
     tree
 }
 
-// The tree that some bytes stand for. A refused sheet has no places, so its tree is the fresh one.
-pub fn read_tree(s: &[u8]) -> SheetTree
-    ensures { Yields s.now result }
+// The tree that some bytes stand for, with their taps; or why they are refused.
+pub fn read_tree(bytes: &[u8]) -> Result<SheetTree, Refused>
+    ensures { spec.told_tree result ≡ spec.tree_on (read_sheet bytes.now) }
 {
-    let p = sheet_reader::read_sheet(s);
-    let tree = build(&p.places, p.placed, &p.clips, p.clipped);
-    let answer = p.answer;
-    let taps = p.taps;
-    SheetTree {
-        answer,
+    let sheet = sheet_reader::read_sheet(bytes)?;
+    let tree = build(&sheet);
+    Ok(SheetTree {
         tree,
-        taps,
-        tapped: p.tapped,
-    }
+        taps: sheet.taps,
+    })
 }

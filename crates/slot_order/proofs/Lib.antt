@@ -1,4 +1,3 @@
 pub mod Members
-pub mod Lent
 pub mod Sorted
 pub mod Steps

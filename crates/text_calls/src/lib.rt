@@ -2,133 +2,178 @@
 #![tactic(auto)]
 
 pub mod state; // how a list begins, and which lines have no call
-mod verbs; // the calls by name
 mod read; // what the words of a line stand for
-mod show; // the parts of an answer
-mod structure; // insert, remove, reparent, commit
-mod setters; // the six setters
-mod readings; // the readings
-mod requests; // taps and listings
+mod show; // the values of an answer
+mod requests; // calls that are lent room
 
 ghost use Rattle.std.specs.Prelude.{◌≡◌, true};
 ghost use Rattle.text_calls.specs.state.Lists as spec;
 
+use crate::read::{Fault, FromWords};
+use crate::show::Show;
 use crate::state::is_note;
 pub use crate::state::{State, start};
-use crate::verbs::Verb;
-use text_lines::print::Buffer;
-use text_lines::{line, print};
-use tree_state::Tree;
+use index_types::NodeId;
+use text_lines::calls::{end, end_line};
+use text_lines::print::Out;
+use text_lines::words::Words;
+use tree_readings::worlds;
+use tree_state::{Refusal, Tree};
+use tree_types::LocalNode;
 
-fn new(out: &mut Buffer, used: &mut usize, n: usize, t: Tree) -> Tree {
-    if n != 1 {
-        return show::malformed(out, used, t);
-    }
-    print::text(out, used, b"ok");
-    tree_state::fresh()
-}
-
-// What `room_after` keeps is only answered here.
-fn room(out: &mut Buffer, used: &mut usize, line: &[u8], n: usize) {
-    let w = line::decimal_at(line, 1);
-    if !((n == 2) & w.is_read) {
-        show::not_read(out, used);
+// Makes the call of a line, and answers it. A note has no answer and changes nothing. A write that fails is passed over.
+pub fn answer(out: &mut Out, line: &[u8], state: &mut State)
+    ensures { spec.is_note line.now ≡ true → state.new ≡ state.old }
+{
+    if is_note(line) {
         return;
     }
-    print::text(out, used, b"ok");
+    answer_call(out, line, state);
 }
 
-// The calls that leave the tree as it is.
-fn reading(out: &mut Buffer, used: &mut usize, line: &[u8], n: usize, v: Verb, t: Tree, ids: u32) {
-    match v {
-        Verb::Room => room(out, used, line, n),
-        Verb::NeedsCommit => readings::needs_commit(out, used, n, t),
-        Verb::IntersectRect => requests::intersect_rect(out, used, line, n, t, ids),
-        Verb::HitTestPoint => requests::at_point(out, used, line, n, true, t, ids),
-        Verb::ContainingPoint => requests::at_point(out, used, line, n, false, t, ids),
-        _ => readings::of_node(out, used, line, n, v, t, ids),
+fn answer_call(out: &mut Out, line: &[u8], state: &mut State) {
+    let mut words = Words::new(line);
+    let name = words.next().unwrap_or(b"");
+    let answered = call(out, name, &mut words, state);
+    let _ = end_line(out, answered, number);
+}
+
+// The number of a refusal.
+fn number(refusal: Refusal) -> u32 {
+    match refusal {
+        Refusal::Unsound => 1,
+        Refusal::DeadNode => 2,
+        Refusal::DeadParent => 3,
+        Refusal::BelowItself => 4,
+        Refusal::NotFinite => 5,
+        Refusal::UnknownFlags => 6,
+        Refusal::NeedsCommit => 7,
+        Refusal::ShortRoom => 8,
+        Refusal::Full => 9,
     }
 }
 
-// The setters, and the calls that leave the tree as it is.
-fn setter(
-    out: &mut Buffer,
-    used: &mut usize,
-    line: &[u8],
-    n: usize,
-    v: Verb,
-    t: Tree,
+// A further call is one arm here, or in one of the two functions below.
+fn call(out: &mut Out, name: &[u8], words: &mut Words, state: &mut State) -> Result<(), Fault> {
+    match name {
+        b"new" => new(out, words, &mut state.tree),
+        b"room" => room(out, words, state),
+        b"insert" => insert(out, words, &mut state.tree),
+        b"remove" => remove(out, words, &mut state.tree),
+        b"reparent" => set(out, words, &mut state.tree, tree_reparent::reparent),
+        b"commit" => requests::commit(out, words, &mut state.tree, state.rects),
+        b"set_local_bounds" => set(out, words, &mut state.tree, tree_setters::set_local_bounds),
+        b"set_hit_slop" => set(out, words, &mut state.tree, tree_setters::set_hit_slop),
+        b"set_local_transform" => set(
+            out,
+            words,
+            &mut state.tree,
+            tree_setters::set_local_transform,
+        ),
+        b"set_local_clip" => set(out, words, &mut state.tree, tree_setters::set_local_clip),
+        b"set_z_index" => set(out, words, &mut state.tree, tree_setters::set_z_index),
+        b"set_flags" => set(out, words, &mut state.tree, tree_setters::set_flags),
+        _ => request(out, name, words, &state.tree, state.ids),
+    }
+}
+
+// Calls that leave the tree as it is: taps, listings, and whether a commit is due.
+fn request(
+    out: &mut Out,
+    name: &[u8],
+    words: &mut Words,
+    tree: &Tree,
     ids: u32,
-) -> Tree {
-    match v {
-        Verb::SetLocalBounds => setters::set_local_bounds(out, used, line, n, t),
-        Verb::SetHitSlop => setters::set_hit_slop(out, used, line, n, t),
-        Verb::SetLocalTransform => setters::set_local_transform(out, used, line, n, t),
-        Verb::SetLocalClip => setters::set_local_clip(out, used, line, n, t),
-        Verb::SetZIndex => setters::set_z_index(out, used, line, n, t),
-        Verb::SetFlags => setters::set_flags(out, used, line, n, t),
-        _ => {
-            reading(out, used, line, n, v, t, ids);
-            t
-        }
+) -> Result<(), Fault> {
+    match name {
+        b"needs_commit" => needs_commit(out, words, tree),
+        b"hit_test_point" => requests::hit_test_point(out, words, tree, ids),
+        b"containing_point" => requests::containing_point(out, words, tree, ids),
+        b"intersect_rect" => requests::intersect_rect(out, words, tree, ids),
+        b"children_of" => requests::children_of(out, words, tree, ids),
+        _ => reading(out, name, words, tree),
     }
 }
 
-// Each call.
-fn call(
-    out: &mut Buffer,
-    used: &mut usize,
-    line: &[u8],
-    n: usize,
-    v: Verb,
-    t: Tree,
-    ids: u32,
-    rects: u32,
-) -> Tree {
-    match v {
-        Verb::New => new(out, used, n, t),
-        Verb::Insert => structure::insert(out, used, line, n, t),
-        Verb::Remove => structure::remove(out, used, line, n, t),
-        Verb::Reparent => structure::reparent(out, used, line, n, t),
-        Verb::Commit => structure::commit(out, used, n, t, rects),
-        _ => setter(out, used, line, n, v, t, ids),
+// Readings of a node.
+fn reading(out: &mut Out, name: &[u8], words: &mut Words, tree: &Tree) -> Result<(), Fault> {
+    match name {
+        b"is_alive" => of_node(out, words, tree, tree_readings::is_alive),
+        b"parent_of" => of_node(out, words, tree, tree_links::parent_of),
+        b"next_depth_first" => of_node(out, words, tree, tree_links::next_depth_first),
+        b"prev_depth_first" => of_node(out, words, tree, tree_links::prev_depth_first),
+        b"z_index" => of_node(out, words, tree, tree_readings::z_index),
+        b"flags" => of_node(out, words, tree, tree_readings::flags),
+        b"local_bounds" => of_node(out, words, tree, tree_readings::local_bounds),
+        b"hit_slop" => of_node(out, words, tree, tree_readings::hit_slop),
+        b"local_transform" => of_node(out, words, tree, tree_readings::local_transform),
+        b"local_clip" => of_node(out, words, tree, tree_readings::local_clip),
+        b"world_bounds" => of_node(out, words, tree, worlds::world_bounds),
+        b"world_hit_bounds" => of_node(out, words, tree, worlds::world_hit_bounds),
+        b"world_transform" => of_node(out, words, tree, worlds::world_transform),
+        _ => Err(Fault::Malformed),
     }
+}
+
+// What a call gives.
+fn tell<T: Show>(out: &mut Out, answer: Result<T, Refusal>) -> Result<(), Fault> {
+    answer.map_err(Fault::Refused)?.show(out)?;
+    Ok(())
+}
+
+fn new(out: &mut Out, words: &mut Words, tree: &mut Tree) -> Result<(), Fault> {
+    end(words)?;
+    *tree = tree_state::fresh();
+    tell(out, Ok(()))
 }
 
 // The room from a line on: it stays through `new`.
-fn room_after(line: &[u8], n: usize, v: Verb, had: u32) -> u32 {
-    let w = line::decimal_at(line, 1);
-    match v {
-        Verb::Room => {
-            if (n == 2) & w.is_read {
-                return w.value;
-            }
-            had
-        }
-        _ => had,
-    }
+fn room(out: &mut Out, words: &mut Words, state: &mut State) -> Result<(), Fault> {
+    let room = u32::from_words(words)?;
+    end(words)?;
+    state.ids = room;
+    state.rects = room;
+    tell(out, Ok(()))
 }
 
-// Makes the call of a line, and answers it.
-fn answer_call(out: &mut Buffer, used: &mut usize, line: &[u8], s: State) -> State {
-    let n = line::count(line);
-    let v = verbs::verb_of(line);
-    let t = s.tree;
-    let after = call(out, used, line, n, v, t, s.ids, s.rects);
-    print::text(out, used, b"\n");
-    State {
-        tree: after,
-        ids: room_after(line, n, v, s.ids),
-        rects: room_after(line, n, v, s.rects),
-    }
+fn insert(out: &mut Out, words: &mut Words, tree: &mut Tree) -> Result<(), Fault> {
+    let parent = Option::<NodeId>::from_words(words)?;
+    let local = LocalNode::from_words(words)?;
+    end(words)?;
+    tell(out, tree_insert::insert(tree, parent, local))
 }
 
-// Makes the call of a line, and answers it. A note has no answer and changes nothing.
-pub fn answer(out: &mut Buffer, used: &mut usize, line: &[u8], s: State) -> State
-    ensures { spec.is_note line.now ≡ true → result ≡ s }
+fn remove(out: &mut Out, words: &mut Words, tree: &mut Tree) -> Result<(), Fault> {
+    let id = NodeId::from_words(words)?;
+    end(words)?;
+    tell(out, tree_remove::remove(tree, id))
+}
+
+// A setter, or a move to another parent: of a node, to a value.
+fn set<T, F>(out: &mut Out, words: &mut Words, tree: &mut Tree, setter: F) -> Result<(), Fault>
+where
+    T: FromWords,
+    F: FnOnce(&mut Tree, NodeId, T) -> Result<(), Refusal>,
+    requires { F.IsAlwaysCallable setter }
 {
-    if is_note(line) {
-        return s;
-    }
-    answer_call(out, used, line, s)
+    let id = NodeId::from_words(words)?;
+    let value = T::from_words(words)?;
+    end(words)?;
+    tell(out, setter(tree, id, value))
+}
+
+fn needs_commit(out: &mut Out, words: &mut Words, tree: &Tree) -> Result<(), Fault> {
+    end(words)?;
+    tell(out, tree_readings::needs_commit(tree))
+}
+
+fn of_node<T, F>(out: &mut Out, words: &mut Words, tree: &Tree, reading: F) -> Result<(), Fault>
+where
+    T: Show,
+    F: FnOnce(&Tree, NodeId) -> Result<T, Refusal>,
+    requires { F.IsAlwaysCallable reading }
+{
+    let id = NodeId::from_words(words)?;
+    end(words)?;
+    tell(out, reading(tree, id))
 }

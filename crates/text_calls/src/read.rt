@@ -1,226 +1,148 @@
-// What the words of a line stand for.
-ghost use Rattle.std.specs.Prelude.{◌≤◌};
-
+// What the words of a call stand for.
 use geometry::affine::Affine;
 use geometry::insets::Insets;
+use geometry::point::Point;
 use geometry::rect::Rect;
 use geometry_clips::clip::Clip;
 use index_types::NodeId;
-use text_lines::line;
-use tree_types::{LocalNode, NodeFlags, OptionNodeId};
+use text_lines::words::Words;
+use text_lines::{calls, words};
+use tree_state::Refusal;
+use tree_types::{LocalNode, NodeFlags, QueryFilter};
 
-#[derive(Clone, Copy)]
-pub(crate) struct ReadId {
-    pub(crate) is_read: bool,
-    pub(crate) id: NodeId,
+// Why a call has no answer of its own.
+pub(crate) type Fault = calls::Fault<Refusal>;
+
+// What is read from the words that come next.
+pub(crate) trait FromWords: Drop {
+    fn from_words(words: &mut Words) -> Result<Self, Fault>;
 }
 
-#[derive(Clone, Copy)]
-pub(crate) struct ReadParent {
-    pub(crate) is_read: bool,
-    pub(crate) parent: OptionNodeId,
+fn number(words: &mut Words) -> Result<f64, Fault> {
+    words.number().ok_or(Fault::Malformed)
 }
 
-#[derive(Clone, Copy)]
-pub(crate) struct ReadRect {
-    pub(crate) is_read: bool,
-    pub(crate) rect: Rect,
+fn four(words: &mut Words) -> Result<[f64; 4], Fault> {
+    words.four().ok_or(Fault::Malformed)
 }
 
-#[derive(Clone, Copy)]
-pub(crate) struct ReadInsets {
-    pub(crate) is_read: bool,
-    pub(crate) insets: Insets,
+fn id(word: &[u8]) -> Result<NodeId, Fault> {
+    let (index, generation) = words::pair(word).ok_or(Fault::Malformed)?;
+    Ok(NodeId(index, generation))
 }
 
-#[derive(Clone, Copy)]
-pub(crate) struct ReadAffine {
-    pub(crate) is_read: bool,
-    pub(crate) tf: Affine,
-}
-
-// A clip, and where the word after it stands.
-#[derive(Clone, Copy)]
-pub(crate) struct ReadClip {
-    pub(crate) is_read: bool,
-    pub(crate) clip: Clip,
-    pub(crate) next: usize,
-}
-
-#[derive(Clone, Copy)]
-pub(crate) struct ReadFlags {
-    pub(crate) is_read: bool,
-    pub(crate) flags: NodeFlags,
-}
-
-#[derive(Clone, Copy)]
-pub(crate) struct ReadLocal {
-    pub(crate) is_read: bool,
-    pub(crate) local: LocalNode,
-}
-
-pub(crate) fn id_at(line: &[u8], word: usize) -> ReadId {
-    let p = line::pair_at(line, word);
-    ReadId {
-        is_read: p.is_read,
-        id: NodeId(p.index, p.generation),
+impl FromWords for u32 {
+    fn from_words(words: &mut Words) -> Result<u32, Fault> {
+        words.whole().ok_or(Fault::Malformed)
     }
 }
 
-// `-` is no parent.
-pub(crate) fn parent_at(line: &[u8], word: usize) -> ReadParent {
-    if line::which(b"-", line, word) == 0 {
-        return ReadParent {
-            is_read: true,
-            parent: OptionNodeId::None,
-        };
-    }
-    let p = line::pair_at(line, word);
-    ReadParent {
-        is_read: p.is_read,
-        parent: OptionNodeId::Some(NodeId(p.index, p.generation)),
+impl FromWords for i32 {
+    fn from_words(words: &mut Words) -> Result<i32, Fault> {
+        words.whole().ok_or(Fault::Malformed)
     }
 }
 
-pub(crate) fn rect_at(line: &[u8], word: usize) -> ReadRect
-    requires { word ≤ 64 }
-{
-    let b = line::four_at(line, word);
-    ReadRect {
-        is_read: b.is_read,
-        rect: Rect {
-            x0: b.x0,
-            y0: b.y0,
-            x1: b.x1,
-            y1: b.y1,
-        },
+impl FromWords for NodeFlags {
+    fn from_words(words: &mut Words) -> Result<NodeFlags, Fault> {
+        Ok(NodeFlags(words.whole().ok_or(Fault::Malformed)?))
     }
 }
 
-pub(crate) fn insets_at(line: &[u8], word: usize) -> ReadInsets
-    requires { word ≤ 64 }
-{
-    let b = line::four_at(line, word);
-    ReadInsets {
-        is_read: b.is_read,
-        insets: Insets {
-            x0: b.x0,
-            y0: b.y0,
-            x1: b.x1,
-            y1: b.y1,
-        },
+impl FromWords for QueryFilter {
+    fn from_words(words: &mut Words) -> Result<QueryFilter, Fault> {
+        Ok(QueryFilter {
+            required_flags: NodeFlags::from_words(words)?,
+        })
     }
 }
 
-pub(crate) fn affine_at(line: &[u8], word: usize) -> ReadAffine
-    requires { word ≤ 60 }
-{
-    let b = line::four_at(line, word);
-    let e = line::number_at(line, word + 4);
-    let f = line::number_at(line, word + 5);
-    ReadAffine {
-        is_read: b.is_read & e.is_read & f.is_read,
-        tf: Affine {
-            a: b.x0,
-            b: b.y0,
-            c: b.x1,
-            d: b.y1,
-            e: e.value,
-            f: f.value,
-        },
+impl FromWords for NodeId {
+    fn from_words(words: &mut Words) -> Result<NodeId, Fault> {
+        id(words.next().ok_or(Fault::Malformed)?)
     }
 }
 
-fn square_at(line: &[u8], word: usize) -> ReadClip
-    requires { word ≤ 50 }
-    ensures { result.next ≤ 64 }
-{
-    let b = line::four_at(line, word + 1);
-    ReadClip {
-        is_read: b.is_read,
-        clip: Clip::Square {
-            x0: b.x0,
-            y0: b.y0,
-            x1: b.x1,
-            y1: b.y1,
-        },
-        next: word + 5,
+// A parent, where `-` is none.
+impl FromWords for Option<NodeId> {
+    fn from_words(words: &mut Words) -> Result<Option<NodeId>, Fault> {
+        match words.next().ok_or(Fault::Malformed)? {
+            b"-" => Ok(None),
+            word => Ok(Some(id(word)?)),
+        }
     }
 }
 
-fn rounded_at(line: &[u8], word: usize) -> ReadClip
-    requires { word ≤ 50 }
-    ensures { result.next ≤ 64 }
-{
-    let b = line::four_at(line, word + 1);
-    let q = line::four_at(line, word + 5);
-    ReadClip {
-        is_read: b.is_read & q.is_read,
-        clip: Clip::Rounded {
-            x0: b.x0,
-            y0: b.y0,
-            x1: b.x1,
-            y1: b.y1,
-            top_left: q.x0,
-            top_right: q.y0,
-            bottom_right: q.x1,
-            bottom_left: q.y1,
-        },
-        next: word + 9,
+impl FromWords for Point {
+    fn from_words(words: &mut Words) -> Result<Point, Fault> {
+        Ok(Point {
+            x: number(words)?,
+            y: number(words)?,
+        })
+    }
+}
+
+impl FromWords for Rect {
+    fn from_words(words: &mut Words) -> Result<Rect, Fault> {
+        let [x0, y0, x1, y1] = four(words)?;
+        Ok(Rect { x0, y0, x1, y1 })
+    }
+}
+
+impl FromWords for Insets {
+    fn from_words(words: &mut Words) -> Result<Insets, Fault> {
+        let [x0, y0, x1, y1] = four(words)?;
+        Ok(Insets { x0, y0, x1, y1 })
+    }
+}
+
+impl FromWords for Affine {
+    fn from_words(words: &mut Words) -> Result<Affine, Fault> {
+        let [a, b, c, d] = four(words)?;
+        let e = number(words)?;
+        let f = number(words)?;
+        Ok(Affine { a, b, c, d, e, f })
     }
 }
 
 // `none`, `square` with its edges, or `rounded` with its edges and radii.
-pub(crate) fn clip_at(line: &[u8], word: usize) -> ReadClip
-    requires { word ≤ 50 }
-    ensures { result.next ≤ 64 }
-{
-    let kind = line::which(b"none square rounded", line, word);
-    if kind == 1 {
-        return square_at(line, word);
-    }
-    if kind == 2 {
-        return rounded_at(line, word);
-    }
-    ReadClip {
-        is_read: kind == 0,
-        clip: Clip::None,
-        next: word + 1,
+impl FromWords for Clip {
+    fn from_words(words: &mut Words) -> Result<Clip, Fault> {
+        match words.next().ok_or(Fault::Malformed)? {
+            b"none" => Ok(Clip::None),
+            b"square" => {
+                let [x0, y0, x1, y1] = four(words)?;
+                Ok(Clip::Square { x0, y0, x1, y1 })
+            }
+            b"rounded" => {
+                let [x0, y0, x1, y1] = four(words)?;
+                let [top_left, top_right, bottom_right, bottom_left] = four(words)?;
+                Ok(Clip::Rounded {
+                    x0,
+                    y0,
+                    x1,
+                    y1,
+                    top_left,
+                    top_right,
+                    bottom_right,
+                    bottom_left,
+                })
+            }
+            _ => Err(Fault::Malformed),
+        }
     }
 }
 
-pub(crate) fn flags_at(line: &[u8], word: usize) -> ReadFlags {
-    let b = line::byte_at(line, word);
-    ReadFlags {
-        is_read: b.is_read,
-        flags: NodeFlags(b.value),
-    }
-}
-
-// Bounds, slop, transform, clip, level and flags: the rest of a line of n words.
-pub(crate) fn local_at(line: &[u8], n: usize) -> ReadLocal {
-    let bounds = rect_at(line, 2);
-    let slop = insets_at(line, 6);
-    let t = affine_at(line, 10);
-    let c = clip_at(line, 16);
-    let z = line::signed_at(line, c.next);
-    let last = c.next + 1;
-    let f = flags_at(line, last);
-    let whole = bounds.is_read & slop.is_read & t.is_read;
-    let local_bounds = bounds.rect;
-    let hit_slop = slop.insets;
-    let local_transform = t.tf;
-    let local_clip = c.clip;
-    let flags = f.flags;
-    ReadLocal {
-        is_read: whole & c.is_read & z.is_read & (f.is_read & (n == last + 1)),
-        local: LocalNode {
-            local_bounds,
-            hit_slop,
-            local_transform,
-            local_clip,
-            z_index: z.value,
-            flags,
-        },
+// Bounds, slop, transform, clip, level and flags.
+impl FromWords for LocalNode {
+    fn from_words(words: &mut Words) -> Result<LocalNode, Fault> {
+        Ok(LocalNode {
+            local_bounds: Rect::from_words(words)?,
+            hit_slop: Insets::from_words(words)?,
+            local_transform: Affine::from_words(words)?,
+            local_clip: Clip::from_words(words)?,
+            z_index: i32::from_words(words)?,
+            flags: NodeFlags::from_words(words)?,
+        })
     }
 }

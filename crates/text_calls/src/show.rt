@@ -1,174 +1,116 @@
 // The parts of an answer.
-ghost use Rattle.std.specs.Prelude.{◌≡◌, ◌≤◌, ◌<◌, length};
-
 use geometry::affine::Affine;
 use geometry::insets::Insets;
 use geometry::rect::Rect;
 use geometry_clips::clip::Clip;
-use index_types::{NodeId, flat_tables};
+use index_types::NodeId;
+use std::io;
+use std::io::Write;
 use text_lines::print;
-use text_lines::print::Buffer;
-use tree_state::{Refusal, Tree, Verdict};
+use text_lines::print::{Coefficient, Four, Out, Pair};
+use tree_types::NodeFlags;
 
-// ---- lent room
-
-// How many ids or rectangles room for n holds; from 512 on all that there is.
-pub(crate) fn lent(n: u32) -> usize
-    ensures { result ≤ 512 }
-{
-    if n < 512 { n as usize } else { 512 }
+// What an answer shows of a value.
+pub(crate) trait Show: Drop {
+    fn show(&self, out: &mut Out) -> io::Result<()>;
 }
 
-pub(crate) fn id_room() -> [u32; 1024]
-    ensures { 1024 ≡ length result }
-{
-    [0u32; 1024]
-}
-
-pub(crate) fn rect_room() -> [f64; 2048]
-    ensures { 2048 ≡ length result }
-{
-    [0.0; 2048]
-}
-
-// ---- what is said
-
-// Changes nothing.
-pub(crate) fn malformed(out: &mut Buffer, used: &mut usize, t: Tree) -> Tree {
-    print::text(out, used, b"malformed");
-    t
-}
-
-pub(crate) fn not_read(out: &mut Buffer, used: &mut usize) {
-    print::text(out, used, b"malformed");
-}
-
-// Document 01's number of a refusal.
-fn number(r: Refusal) -> usize {
-    match r {
-        Refusal::Unsound => 1,
-        Refusal::DeadNode => 2,
-        Refusal::DeadParent => 3,
-        Refusal::BelowItself => 4,
-        Refusal::NotFinite => 5,
-        Refusal::UnknownFlags => 6,
-        Refusal::NeedsCommit => 7,
-        Refusal::ShortRoom => 8,
-        Refusal::Full => 9,
+// A call without a value.
+impl Show for () {
+    fn show(&self, out: &mut Out) -> io::Result<()> {
+        write!(out, "ok")
     }
 }
 
-pub(crate) fn refused(out: &mut Buffer, used: &mut usize, r: Refusal) {
-    print::text(out, used, b"refused ");
-    print::count(out, used, number(r));
-}
-
-pub(crate) fn verdict(out: &mut Buffer, used: &mut usize, v: Verdict) {
-    match v {
-        Verdict::Accepted => print::text(out, used, b"ok"),
-        Verdict::Refused(r) => refused(out, used, r),
+impl Show for bool {
+    fn show(&self, out: &mut Out) -> io::Result<()> {
+        write!(out, "{self}")
     }
 }
 
-pub(crate) fn id(out: &mut Buffer, used: &mut usize, i: NodeId) {
-    print::pair(out, used, i.0, i.1);
+impl Show for i32 {
+    fn show(&self, out: &mut Out) -> io::Result<()> {
+        write!(out, "{self}")
+    }
 }
 
-pub(crate) fn rect(out: &mut Buffer, used: &mut usize, r: Rect) {
-    print::four(out, used, r.x0, r.y0, r.x1, r.y1);
+impl Show for NodeFlags {
+    fn show(&self, out: &mut Out) -> io::Result<()> {
+        let NodeFlags(bits) = *self;
+        write!(out, "{bits}")
+    }
 }
 
-fn coefficients(out: &mut Buffer, used: &mut usize, a: f64, b: f64, c: f64, d: f64) {
-    print::coefficient(out, used, a);
-    print::text(out, used, b" ");
-    print::coefficient(out, used, b);
-    print::text(out, used, b" ");
-    print::coefficient(out, used, c);
-    print::text(out, used, b" ");
-    print::coefficient(out, used, d);
+impl Show for NodeId {
+    fn show(&self, out: &mut Out) -> io::Result<()> {
+        write!(out, "{}", Pair(self.0, self.1))
+    }
 }
 
-pub(crate) fn insets(out: &mut Buffer, used: &mut usize, i: Insets) {
-    coefficients(out, used, i.x0, i.y0, i.x1, i.y1);
-}
-
-pub(crate) fn affine(out: &mut Buffer, used: &mut usize, t: Affine) {
-    coefficients(out, used, t.a, t.b, t.c, t.d);
-    print::text(out, used, b" ");
-    print::coefficient(out, used, t.e);
-    print::text(out, used, b" ");
-    print::coefficient(out, used, t.f);
-}
-
-pub(crate) fn clip(out: &mut Buffer, used: &mut usize, c: Clip) {
-    match c {
-        Clip::None => print::text(out, used, b"none"),
-        Clip::Square { x0, y0, x1, y1 } => {
-            print::text(out, used, b"square ");
-            print::four(out, used, x0, y0, x1, y1);
-        }
-        Clip::Rounded {
-            x0,
-            y0,
-            x1,
-            y1,
-            top_left,
-            top_right,
-            bottom_right,
-            bottom_left,
-        } => {
-            print::text(out, used, b"rounded ");
-            print::four(out, used, x0, y0, x1, y1);
-            print::text(out, used, b" ");
-            print::four(out, used, top_left, top_right, bottom_right, bottom_left);
+impl Show for Option<NodeId> {
+    fn show(&self, out: &mut Out) -> io::Result<()> {
+        match self {
+            Some(id) => id.show(out),
+            None => write!(out, "none"),
         }
     }
 }
 
-// ---- what stands in front of lent room
-
-// At most 512: there is room for no more.
-fn at_most(n: usize) -> usize
-    ensures { result ≤ 512 }
-{
-    if n <= 512 { n } else { 512 }
-}
-
-// A space, and the id at the place i.
-fn id_in(out: &mut Buffer, used: &mut usize, room: &[u32; 1024], i: usize)
-    requires { i < 512 }
-{
-    print::text(out, used, b" ");
-    print::pair(out, used, room[i * 2], room[i * 2 + 1]);
-}
-
-// Their number, then the ids.
-pub(crate) fn ids(out: &mut Buffer, used: &mut usize, room: &[u32; 1024], n: usize) {
-    print::count(out, used, n);
-    let most = at_most(n);
-    let mut i = 0;
-    while i < most {
-        id_in(out, used, room, i);
-        i += 1;
+impl Show for Rect {
+    fn show(&self, out: &mut Out) -> io::Result<()> {
+        write!(out, "{}", Four([self.x0, self.y0, self.x1, self.y1]))
     }
 }
 
-// A space, and the rectangle at the place i.
-fn rect_in(out: &mut Buffer, used: &mut usize, room: &[f64; 2048], i: usize)
-    requires { i < 512 }
-{
-    let b = flat_tables::box_at(room, i);
-    print::text(out, used, b" ");
-    print::four(out, used, b.min_x, b.min_y, b.max_x, b.max_y);
+impl Show for Insets {
+    fn show(&self, out: &mut Out) -> io::Result<()> {
+        coefficients(out, [self.x0, self.y0, self.x1, self.y1])
+    }
 }
 
-// Their number, then the rectangles.
-pub(crate) fn rects(out: &mut Buffer, used: &mut usize, room: &[f64; 2048], n: usize) {
-    print::count(out, used, n);
-    let most = at_most(n);
-    let mut i = 0;
-    while i < most {
-        rect_in(out, used, room, i);
-        i += 1;
+impl Show for Affine {
+    fn show(&self, out: &mut Out) -> io::Result<()> {
+        coefficients(out, [self.a, self.b, self.c, self.d])?;
+        write!(out, " {} {}", Coefficient(self.e), Coefficient(self.f))
     }
+}
+
+impl Show for Clip {
+    fn show(&self, out: &mut Out) -> io::Result<()> {
+        match *self {
+            Clip::None => write!(out, "none"),
+            Clip::Square { x0, y0, x1, y1 } => write!(out, "square {}", Four([x0, y0, x1, y1])),
+            Clip::Rounded {
+                x0,
+                y0,
+                x1,
+                y1,
+                top_left,
+                top_right,
+                bottom_right,
+                bottom_left,
+            } => {
+                let edges = Four([x0, y0, x1, y1]);
+                let radii = Four([top_left, top_right, bottom_right, bottom_left]);
+                write!(out, "rounded {edges} {radii}")
+            }
+        }
+    }
+}
+
+fn coefficients(out: &mut Out, numbers: [f64; 4]) -> io::Result<()> {
+    let [a, b, c, d] = numbers.map(Coefficient);
+    write!(out, "{a} {b} {c} {d}")
+}
+
+// The number of ids in front of the room, then the ids.
+pub(crate) fn ids(out: &mut Out, room: &[u32], count: usize) -> io::Result<()> {
+    write!(out, "{count}")?;
+    print::pairs(out, print::front(room, count, 2))
+}
+
+// The number of rectangles in front of the room, then the rectangles.
+pub(crate) fn rects(out: &mut Out, room: &[f64], count: usize) -> io::Result<()> {
+    write!(out, "{count}")?;
+    print::numbers(out, print::front(room, count, 4))
 }

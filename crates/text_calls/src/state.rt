@@ -27,8 +27,8 @@ pub fn start() -> State
 pub fn is_note(line: &[u8]) -> bool
     ensures { result ≡ spec.is_note line.now }
 {
-    if line.len() == 0 {
-        return true;
+    match line {
+        [] => true,
+        [first, ..] => *first == b'#',
     }
-    line[0] == b'#'
 }

@@ -1,4 +1,3 @@
-pub mod Back
 pub mod Nan
 pub mod Spelt
 pub mod Split

@@ -3,9 +3,8 @@
 #![tactic(auto)]
 
 pub mod spelling; // which name a word is, and the f64 whose bits it spells
-pub mod words; // a line's words: names and f64
-pub mod decimals; // a line's words: whole numbers
-pub mod line; // all that a word of a line can stand for
-pub mod print; // the parts of an answer
+pub mod words; // a line's words, one after the other
+pub mod print; // numbers as answers show them
+pub mod calls; // how the line of a call is answered
 pub mod input; // standard input by lines
 pub mod report; // rounds, the clock and the lines of the programs that time calls

@@ -1,123 +1,90 @@
-// The parts of an answer. They gather in `out`, of which the first `used` bytes are still to be written.
-ghost use Rattle.std.specs.Prelude.{◌≡◌, ◌<◌, ◌≤◌};
+// Numbers as answers show them.
+ghost use Rattle.std.specs.Prelude.{◌≡◌, ◌*◌, length, min, take};
 
-use crate::spelling;
+use std::io::{BufWriter, Write};
+use std::rt::Stdout;
+use std::{fmt, io};
 
-pub type Buffer = [u8; 65536];
-
-// The first `n` bytes of `s`, to standard output.
-fn write(s: &[u8], n: usize) {
-    let k = spelling::within(n, s);
-    io::write_all(1, &s[..k]);
-}
-
-// Writes what has gathered: nothing is left to be written.
-pub fn flush(out: &Buffer, used: usize) -> usize
-    ensures { result ≡ 0 }
-{
-    write(out, used);
-    0
-}
-
-// Where the next byte goes: where `out` is full, it is written out first.
-fn next(out: &Buffer, used: usize) -> usize
-    ensures { result < 65536 }
-{
-    if used < 65536 {
-        return used;
-    }
-    flush(out, used)
-}
-
-pub fn text(out: &mut Buffer, used: &mut usize, s: &[u8])
-    ensures { used.new ≤ 65536 }
-{
-    let mut n = next(out, *used);
-    let mut i = 0;
-    while i < s.len() {
-        let at = next(out, n);
-        out[at] = s[i];
-        n = at + 1;
-        i += 1;
-    }
-    *used = n;
-}
-
-pub fn count(out: &mut Buffer, used: &mut usize, n: usize)
-    ensures { used.new ≤ 65536 }
-{
-    let mut digits = [0u8; 20];
-    let k = io::decimal(n as u64, &mut digits);
-    text(out, used, &digits[..k]);
-}
-
-// A number that is not below 0; else 0.
-fn natural(z: i32) -> usize
-    ensures { result ≤ 2147483648 }
-{
-    if z < 0 {
-        return 0;
-    }
-    z as usize
-}
-
-// A number below 0 has the size of its `!`, plus 1.
-pub fn signed(out: &mut Buffer, used: &mut usize, z: i32)
-    ensures { used.new ≤ 65536 }
-{
-    if z < 0 {
-        text(out, used, b"-");
-        count(out, used, natural(!z) + 1);
-        return;
-    }
-    count(out, used, natural(z));
-}
-
-// `index:generation`
-pub fn pair(out: &mut Buffer, used: &mut usize, index: u32, generation: u32)
-    ensures { used.new ≤ 65536 }
-{
-    count(out, used, index as usize);
-    text(out, used, b":");
-    count(out, used, generation as usize);
-}
+// Where answers gather before they are written.
+pub type Out = BufWriter<Stdout>;
 
 // `nan`, `0` for either zero, or the 16 hexadecimal digits of the bits.
-pub fn number(out: &mut Buffer, used: &mut usize, x: f64)
-    ensures { used.new ≤ 65536 }
-{
-    if x != x {
-        text(out, used, b"nan");
-        return;
+#[derive(Clone, Copy)]
+pub struct Number(pub f64);
+
+impl fmt::Display for Number {
+    fn fmt<W: fmt::Write>(&self, f: &mut fmt::Formatter<W>) -> fmt::Result {
+        let x = self.0;
+        if x.is_nan() {
+            write!(f, "nan")
+        } else if x == 0.0 {
+            write!(f, "0")
+        } else {
+            let bits = x.to_bits();
+            write!(f, "{bits:016x}")
+        }
     }
-    if x == 0.0 {
-        text(out, used, b"0");
-        return;
-    }
-    let mut digits = [0u8; 16];
-    let k = io::hex(f64::to_bits(x), 16, &mut digits);
-    text(out, used, &digits[..k]);
 }
 
 // The same, and `-0` for the negative zero, whose reciprocal is below 0.
-pub fn coefficient(out: &mut Buffer, used: &mut usize, x: f64)
-    ensures { used.new ≤ 65536 }
-{
-    if (x == 0.0) & (1.0 / x < 0.0) {
-        text(out, used, b"-");
+#[derive(Clone, Copy)]
+pub struct Coefficient(pub f64);
+
+impl fmt::Display for Coefficient {
+    fn fmt<W: fmt::Write>(&self, f: &mut fmt::Formatter<W>) -> fmt::Result {
+        let x = self.0;
+        if x == 0.0 && 1.0 / x < 0.0 {
+            write!(f, "-")?;
+        }
+        Number(x).fmt(f)
     }
-    number(out, used, x);
 }
 
 // Four numbers, one space apart.
-pub fn four(out: &mut Buffer, used: &mut usize, x0: f64, y0: f64, x1: f64, y1: f64)
-    ensures { used.new ≤ 65536 }
+#[derive(Clone, Copy)]
+pub struct Four(pub [f64; 4]);
+
+impl fmt::Display for Four {
+    fn fmt<W: fmt::Write>(&self, f: &mut fmt::Formatter<W>) -> fmt::Result {
+        let [a, b, c, d] = self.0.map(Number);
+        write!(f, "{a} {b} {c} {d}")
+    }
+}
+
+// `index:generation`
+#[derive(Clone, Copy)]
+pub struct Pair(pub u32, pub u32);
+
+impl fmt::Display for Pair {
+    fn fmt<W: fmt::Write>(&self, f: &mut fmt::Formatter<W>) -> fmt::Result {
+        let Pair(index, generation) = *self;
+        write!(f, "{index}:{generation}")
+    }
+}
+
+// ---- what stands in front of lent room
+
+// The first `count` rows of so many values, or all that there are.
+pub fn front<T>(room: &[T], count: usize, width: usize) -> &[T]
+    ensures { result.now ≡ take (min (length room.now) (count * width)) room.now }
 {
-    number(out, used, x0);
-    text(out, used, b" ");
-    number(out, used, y0);
-    text(out, used, b" ");
-    number(out, used, x1);
-    text(out, used, b" ");
-    number(out, used, y1);
+    &room[..room.len().min(count.saturating_mul(width))]
+}
+
+// Inner: each number after a space.
+pub fn numbers(out: &mut Out, numbers: &[f64]) -> io::Result<()> {
+    for x in numbers {
+        write!(out, " {}", Number(*x))?;
+    }
+    Ok(())
+}
+
+// Inner: each pair after a space.
+pub fn pairs(out: &mut Out, numbers: &[u32]) -> io::Result<()> {
+    for pair in numbers.chunks_exact(2) {
+        if let [index, generation] = *pair {
+            write!(out, " {}", Pair(index, generation))?;
+        }
+    }
+    Ok(())
 }

@@ -1,93 +1,101 @@
-// A line's words, one space apart and counted from 0: which name a word is, and the f64 that it spells. A word that is missing is empty, and
-// no number is.
-ghost use Rattle.std.specs.Prelude.{◌≡◌, ◌≤◌, length, drop};
-ghost use Rattle.text_lines.specs.spelling.Words.{parted, Place, pattern_of};
+// The words of a line, one space apart, read one after the other.
+ghost use Rattle.std.specs.Prelude.{◌≡◌, ◌↔◌, [], ◌∷◌, drop, IsTrue, IfSome, MatchOption};
+ghost use Rattle.text_lines.specs.spelling.Words.{pattern_of};
 ghost use Rattle.text_lines.specs.words.Lines as spec;
 
 use crate::spelling;
-use crate::spelling::Word;
+use std::str::FromStr;
 
-// An f64.
+// The words of a line that are still to be read: those of `rest`, if there is one.
 #[derive(Clone, Copy)]
-pub struct Number {
-    pub is_read: bool,
-    pub value: f64,
+pub struct Words<'a> {
+    rest: Option<&'a [u8]>,
 }
 
-// Four f64 in a row.
-#[derive(Clone, Copy)]
-pub struct Four {
-    pub is_read: bool,
-    pub x0: f64,
-    pub y0: f64,
-    pub x1: f64,
-    pub y1: f64,
-}
-
-// Where a word begins, counted from 0. A word that is missing begins where the line ends.
-pub fn start(line: &[u8], word: usize) -> usize
-    ensures { (result ≤ length line.now) × (drop result line.now ≡ spec.from word line.now) }
+// The f64 whose bits a word spells.
+pub fn number(word: &[u8]) -> Option<f64>
+    ensures { result ≡ spec.number_of (pattern_of word.now) }
 {
-    let mut at = 0;
-    let mut left = word;
-    while left > 0 {
-        let end = byte_search::find(line, at, line.len(), b' ');
-        if end >= line.len() {
-            return end;
+    spelling::pattern(word).map(spelling::float)
+}
+
+// Inner: a whole number, in decimal digits with no zero in front, and no -0.
+pub fn whole<T: FromStr>(word: &[u8]) -> Option<T>
+where
+    T::Err: Drop,
+{
+    match word {
+        [b'0'] | [b'1'..=b'9', ..] | [b'-', b'1'..=b'9', ..] => {
+            std::str::from_utf8(word).ok()?.parse().ok()
         }
-        at = end + 1;
-        left -= 1;
-    }
-    at
-}
-
-// Which of `names`, parted by spaces, a word is: their number stands for none.
-pub fn which(names: &[u8], line: &[u8], word: usize) -> usize
-    ensures { Place (spec.word_at word line.now) (parted names.now) result }
-{
-    let from = start(line, word);
-    let end = byte_search::find(line, from, line.len(), b' ');
-    spelling::place(names, &line[from..end])
-}
-
-// The f64 of a pattern.
-fn read_number(s: &[u8]) -> Number
-    ensures { result ≡ spec.number_of (pattern_of s.now) }
-{
-    match spelling::pattern(s) {
-        Word::Bits(w) => Number {
-            is_read: true,
-            value: spelling::float(w),
-        },
-        Word::None => Number {
-            is_read: false,
-            value: 0.0,
-        },
+        _ => None,
     }
 }
 
-pub fn number_at(line: &[u8], word: usize) -> Number
-    ensures { result ≡ spec.number_at word line.now }
-{
-    let from = start(line, word);
-    let end = byte_search::find(line, from, line.len(), b' ');
-    read_number(&line[from..end])
+// Inner: two whole numbers, as `index:generation`.
+pub fn pair(word: &[u8]) -> Option<(u32, u32)> {
+    let mut halves = word.splitn(2, |b| *b == b':');
+    Some((whole(halves.next()?)?, whole(halves.next()?)?))
 }
 
-// Inner: four words from `word` on.
-pub fn four_at(line: &[u8], word: usize) -> Four
-    requires { word ≤ 64 }
-    ensures { result ≡ spec.four_at word line.now }
-{
-    let a = number_at(line, word);
-    let b = number_at(line, word + 1);
-    let c = number_at(line, word + 2);
-    let d = number_at(line, word + 3);
-    Four {
-        is_read: a.is_read & b.is_read & (c.is_read & d.is_read),
-        x0: a.value,
-        y0: b.value,
-        x1: c.value,
-        y1: d.value,
+impl<'a> Words<'a> {
+    pub fn new(line: &'a [u8]) -> Words<'a>
+        ensures { spec.left result ≡ spec.words line.now }
+    {
+        Words { rest: Some(line) }
+    }
+
+    // The next word: it ends at a space, or where the line ends.
+    pub fn next(&mut self) -> Option<&'a [u8]>
+        ensures { MatchOption result ((spec.left self.old ≡ []) × (spec.left self.new ≡ [])) (λ w. spec.left self.old ≡ w.now ∷ spec.left self.new) }
+    {
+        let line = self.rest?;
+        let end = byte_search::find(line, 0, line.len(), b' ');
+        if end >= line.len() {
+            self.rest = None;
+            return Some(line);
+        }
+        self.rest = Some(&line[end + 1..]);
+        Some(&line[..end])
+    }
+
+    // No word is left.
+    pub fn is_empty(&self) -> bool
+        ensures { IsTrue result ↔ (spec.left self.now ≡ []) }
+    {
+        self.rest.is_none()
+    }
+
+    pub fn number(&mut self) -> Option<f64>
+        ensures value { result ≡ spec.number (spec.left self.old) }
+        ensures rest { spec.left self.new ≡ drop 1 (spec.left self.old) }
+    {
+        number(self.next()?)
+    }
+
+    // Four f64 in a row.
+    #[tactic(auto, unfolding(crate::specs::words::Lines::four))]
+    pub fn four(&mut self) -> Option<[f64; 4]>
+        ensures value { result ≡ spec.four (spec.left self.old) }
+        ensures rest { IfSome result (λ xs. spec.left self.new ≡ drop 4 (spec.left self.old)) }
+    {
+        let a = self.number()?;
+        let b = self.number()?;
+        let c = self.number()?;
+        let d = self.number()?;
+        Some([a, b, c, d])
+    }
+
+    // Inner: the same of the next word.
+    pub fn whole<T: FromStr>(&mut self) -> Option<T>
+    where
+        T::Err: Drop,
+    {
+        whole(self.next()?)
+    }
+
+    // Inner: the same of the next word.
+    pub fn pair(&mut self) -> Option<(u32, u32)> {
+        pair(self.next()?)
     }
 }

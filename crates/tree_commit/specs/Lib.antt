@@ -1,3 +1,1 @@
-pub mod queue
-pub mod work
 pub mod Commit

@@ -10,6 +10,7 @@ use lib.Dec.{ltb}
 use lib.ListN.{length, get_or, take, drop, length-append}
 use lib.Seq.{take-suc, take-length, drop-drop}
 use lib.Ieee.{Float}
+use Rattle.std.specs.Prelude.{Ok}
 use Rattle.geometry.specs.declared.rect.Rect.{Rect}
 use Rattle.node_tables.specs.Tables.{of_rect, rect_of, rect_at}
 use Rattle.tree_steps.specs.Commit.{rects_of, numbers_of, rects_in_front}
@@ -58,6 +59,6 @@ front_long rs room =
     let h : length rs * 4 ≤ length l = omega (arith, length-append (numbers_of rs) (drop (length (numbers_of rs)) room), numbers_length rs) in
     le-ltb (length l / 4) (length rs) ((le-div_iff_mul-le {k = 4} {x = length rs} {y = length l} (omega arith)).1 h)
 
-pub union_front : (rs : List Rect) (room : List Float) → union_rect (rects_in_front rs room) (length rs) ≡ joined rs
+pub union_front : (rs : List Rect) (room : List Float) → union_rect (rects_in_front rs room) (length rs) ≡ Ok (joined rs)
 unfolding union_rect
 union_front rs room = rw (front_long rs room, rects_front rs room)

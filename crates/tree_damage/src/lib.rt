@@ -1,67 +1,47 @@
 // The damage of a tree's commit, as it stands in lent room: understory_box_tree's damage.rs. The commit's answer has the count.
 #![tactic(auto)]
 
-ghost use Rattle.std.specs.Prelude.{◌≡◌, ◌+◌, ◌*◌, ◌≤◌, length};
-ghost use Rattle.node_tables.specs.Tables.{rect_at};
+ghost use Rattle.std.specs.Prelude.{◌≡◌, ◌*◌, ◌≤◌, length};
 ghost use Rattle.tree_steps.specs.Commit.{rects_of};
 ghost use Rattle.tree_damage.specs.Damage as spec;
 
 use geometry::rect::Rect;
-use index_types::flat_tables::box_in;
-
-// The union of the rectangles so far, if there is one; or the refusal 8, where the room is shorter than its count says.
-#[derive(Clone, Copy)]
-pub enum Joined {
-    None,
-    Some(Rect),
-    ShortRoom,
-}
+use node_tables::rect_in;
+use tree_state::Refusal;
 
 // One rectangle more: the first starts the union.
-fn with_rect(u: Joined, r: Rect) -> Joined
-    ensures { result ≡ spec.with_rect u r }
+#[tactic(auto, unfolding(crate::specs::Damage::with_rect))]
+fn with_rect(united: Option<Rect>, r: Rect) -> Option<Rect>
+    ensures { result ≡ spec.with_rect united r }
 {
-    match u {
-        Joined::None => Joined::Some(r),
-        Joined::Some(a) => Joined::Some(a.union(r)),
-        Joined::ShortRoom => Joined::ShortRoom,
-    }
-}
-
-// A rectangle of lent room.
-fn rect_in(room: &[f64], i: usize) -> Rect
-    requires { 4 * i + 4 ≤ length room.now }
-    ensures { result ≡ rect_at room.now i }
-{
-    let b = box_in(room, i);
-    Rect {
-        x0: b.min_x,
-        y0: b.min_y,
-        x1: b.max_x,
-        y1: b.max_y,
+    match united {
+        None => Some(r),
+        Some(u) => Some(u.union(r)),
     }
 }
 
 // The first n rectangles of a room, joined one after the other.
-fn join_all(room: &[f64], n: usize) -> Joined
+#[tactic(auto, using(crate::proofs::Joins::rects_none, crate::proofs::Joins::rects_next))]
+fn join_all(room: &[f64], n: usize) -> Option<Rect>
     requires { 4 * n ≤ length room.now }
     ensures { result ≡ spec.joined (rects_of room.now n) }
 {
-    let mut u = Joined::None;
-    let mut i = 0;
-    while i < n {
-        u = with_rect(u, rect_in(room, i));
-        i += 1;
+    let mut united = None;
+    for i in 0..n {
+        let next = rect_in(room, i);
+        united = with_rect(united, next);
     }
-    u
+    united
 }
 
-// The union of the rectangles that the count says stand in front of the room.
-pub fn union_rect(room: &[f64], count: usize) -> Joined
+// The union of the rectangles that the count says stand in front of the room; refused where the room is shorter. Room and count stay two: the room is
+// lent, no heap, and longer than what stands in it.
+#[tactic(auto, unfolding(crate::specs::Damage::union_rect))]
+pub fn union_rect(room: &[f64], count: usize) -> Result<Option<Rect>, Refusal>
     ensures { result ≡ spec.union_rect room.now count }
 {
     if room.len() / 4 < count {
-        return Joined::ShortRoom;
+        return Err(Refusal::ShortRoom);
     }
-    join_all(room, count)
+    Ok(join_all(room, count))
 }

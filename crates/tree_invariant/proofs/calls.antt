@@ -1,4 +1,3 @@
-pub mod Counts
 pub mod Accepted
 pub mod Links
 pub mod Nodes

@@ -22,7 +22,7 @@ use Rattle.tree_state.specs.Tree.{live_slots, position_of, is_live}
 use Rattle.tree_state.specs.Sound.{SoundTree}
 use Rattle.tree_steps.specs.Commit.{ancestors}
 use Rattle.tree_steps.specs.Structure.{subtree_at}
-use Rattle.tree_laws.specs.Whole.{Whole}
+use Rattle.tree_state.specs.Whole.{Whole}
 
 -- the tree's links are f's table
 abbrev pub Linked : Tree → Forest → Type 0

@@ -1,2 +1,4 @@
 pub mod Whole
 pub mod Ground
+pub mod Counts
+pub mod Taken

@@ -4,7 +4,7 @@ use Rattle.tree_state.specs.declared.Tree.{Tree}
 use Rattle.tree_state.specs.Tree.{fresh_tree}
 use Rattle.index_state.specs.Index.{fresh_index}
 use Rattle.tree_sound.specs.Parts.{Sized}
-use Rattle.tree_laws.specs.Whole.{Whole}
+use Rattle.tree_state.specs.Whole.{Whole}
 
 -- what the test of soundness needs of them
 pub sized : (t : Tree) → Whole t → Sized t

@@ -1,4 +1,6 @@
 -- The links' readings by the forest whose table a sound tree has: neighbours in the walk, the parent, the children.
+use Rattle.index_types.specs.declared.NodeId.{NodeId}
+use Rattle.std.specs.Prelude.{None, Some, Option}
 use mathlib.Core.Path.{◌≡◌, refl, sym, ap, ◌∙◌}
 use mathlib.Core.Bool.{true, cond}
 use mathlib.Core.List.{map}
@@ -9,8 +11,6 @@ use borrow.Author.Tests.{eq-eqb, ne_eqb, lt-ltb, le-ltb}
 use lib.Dec.{ltb}
 use lib.ListN.{get_or}
 use Rattle.tree_types.specs.declared.LocalNode.{LocalNode}
-use Rattle.tree_types.specs.declared.OptionNodeId.{OptionNodeId}
-use Rattle.tree_types.specs.declared.OptionNodeId.TheVariants as node
 use Rattle.link_forest.specs.Forest.{Forest, has, above, children}
 use Rattle.link_forest.specs.Table.{run_length, seg_end, index_of}
 use Rattle.link_forest.specs.Walk.{next, prev}
@@ -23,10 +23,10 @@ use Rattle.tree_steps.specs.Readings.{nearest, parent_of, children_of, next_of, 
 use Rattle.tree_laws.proofs.Ground.{Linked, live_has, at, low, slot_live, ancestors_above, children_at_place}
 
 -- the node of a slot; none for 256
-abbrev pub node_of : Tree → ℕ → OptionNodeId
-node_of t y = cond (ltb y 256) (node.Some (id_at t y)) node.None
+abbrev pub node_of : Tree → ℕ → Option NodeId
+node_of t y = cond (ltb y 256) (Some (id_at t y)) None
 
-node_low : (t : Tree) (y : ℕ) → y < 256 → node.Some (id_at t y) ≡ node_of t y
+node_low : (t : Tree) (y : ℕ) → y < 256 → Some (id_at t y) ≡ node_of t y
 node_low t y h = rw (lt-ltb y 256 h)
 
 module _ (t : Tree) (f : Forest) (L : Linked t f) (x : ℕ) (l : is_live t x ≡ true) where
@@ -37,23 +37,23 @@ module _ (t : Tree) (f : Forest) (L : Linked t f) (x : ℕ) (l : is_live t x ≡
   i = position_of t x
 
   -- a slot of the table is its node
-  of_slot : (j y : ℕ) → j < t.links.count → y ≡ get_or t.links.order j 0 → node.Some (id_at t (get_or t.links.order j 0)) ≡ node_of t y
+  of_slot : (j y : ℕ) → j < t.links.count → y ≡ get_or t.links.order j 0 → Some (id_at t (get_or t.links.order j 0)) ≡ node_of t y
   of_slot j y k e = let z = get_or t.links.order j 0 in node_low t z (low t f L z (slot_live t f L j k)) ∙ ap (node_of t) (sym e)
 
-  of_none : (y : ℕ) → y ≡ 256 → node.None ≡ node_of t y
+  of_none : (y : ℕ) → y ≡ 256 → None ≡ node_of t y
   of_none y e = rw e
 
   -- ---- the next
 
-  next_end : t.links.count ≤ i + 1 → next_of t x ≡ node.None
+  next_end : t.links.count ≤ i + 1 → next_of t x ≡ None
   unfolding next_of
   next_end g = rw (le-ltb (i + 1) t.links.count g)
 
-  next_root : i + 1 < t.links.count → get_or t.links.depth (i + 1) 0 ≡ 1 → next_of t x ≡ node.None
+  next_root : i + 1 < t.links.count → get_or t.links.depth (i + 1) 0 ≡ 1 → next_of t x ≡ None
   unfolding next_of
   next_root k o = rw (lt-ltb (i + 1) t.links.count k, eq-eqb (get_or t.links.depth (i + 1) 0) 1 o)
 
-  next_low : i + 1 < t.links.count → (get_or t.links.depth (i + 1) 0 ≡ 1 → ⊥) → next_of t x ≡ node.Some (id_at t (get_or t.links.order (i + 1) 0))
+  next_low : i + 1 < t.links.count → (get_or t.links.depth (i + 1) 0 ≡ 1 → ⊥) → next_of t x ≡ Some (id_at t (get_or t.links.order (i + 1) 0))
   unfolding next_of
   next_low k n = rw (lt-ltb (i + 1) t.links.count k, ne_eqb (get_or t.links.depth (i + 1) 0) 1 n)
 
@@ -72,11 +72,11 @@ module _ (t : Tree) (f : Forest) (L : Linked t f) (x : ℕ) (l : is_live t x ≡
 
   -- ---- the one before
 
-  prev_root : get_or t.links.depth i 0 ≡ 1 → prev_of t x ≡ node.None
+  prev_root : get_or t.links.depth i 0 ≡ 1 → prev_of t x ≡ None
   unfolding prev_of
   prev_root o = rw (eq-eqb (get_or t.links.depth i 0) 1 o)
 
-  prev_low : (get_or t.links.depth i 0 ≡ 1 → ⊥) → prev_of t x ≡ node.Some (id_at t (get_or t.links.order (i - 1) 0))
+  prev_low : (get_or t.links.depth i 0 ≡ 1 → ⊥) → prev_of t x ≡ Some (id_at t (get_or t.links.order (i - 1) 0))
   unfolding prev_of
   prev_low n = rw (ne_eqb (get_or t.links.depth i 0) 1 n)
 
@@ -102,15 +102,15 @@ module _ (t : Tree) (f : Forest) (L : Linked t f) (x : ℕ) (l : is_live t x ≡
 -- ---- document 01's P10 "After the last leaf of a root, next_depth_first gives none": a root with two children, and a second root behind it
 unfoldable pub two_roots : LocalNode → Tree
 two_roots v =
-    let a = insert_tree fresh_tree node.None v in
-    let b = insert_tree a (node.Some (id_at a 0)) v in
-    let c = insert_tree b (node.Some (id_at a 0)) v in
-    insert_tree c node.None v
+    let a = insert_tree fresh_tree None v in
+    let b = insert_tree a (Some (id_at a 0)) v in
+    let c = insert_tree b (Some (id_at a 0)) v in
+    insert_tree c None v
 
 pub last_leaf : (v : LocalNode)
-    → (next_of (two_roots v) 1 ≡ node.Some (record { 0 = 2; 1 = 1 }))
-    × (next_of (two_roots v) 2 ≡ node.None)
-    × (next_of (two_roots v) 3 ≡ node.None)
-    × (prev_of (two_roots v) 3 ≡ node.None)
+    → (next_of (two_roots v) 1 ≡ Some (record { 0 = 2; 1 = 1 }))
+    × (next_of (two_roots v) 2 ≡ None)
+    × (next_of (two_roots v) 3 ≡ None)
+    × (prev_of (two_roots v) 3 ≡ None)
 unfolding two_roots fresh_tree insert_tree splice add_root add_last run_length seg_end index_of next_of prev_of
 last_leaf v = (refl, refl, refl, refl)

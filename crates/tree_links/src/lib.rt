@@ -4,56 +4,42 @@
 pub mod children; // a node's children
 pub mod walks; // its neighbours in a walk
 
-ghost use Rattle.std.specs.Prelude.{◌≡◌, true};
-ghost use Rattle.tree_state.specs.Sound.{sound_tree};
-ghost use Rattle.tree_state.specs.Tree as tree;
+ghost use Rattle.std.specs.Prelude.{◌≡◌};
 ghost use Rattle.tree_steps.specs.Readings as reading;
-ghost use Rattle.tree_readings.specs.answers.Answers as spec;
+ghost use Rattle.tree_readings.specs.Answers as spec;
+ghost use Rattle.tree_verdicts.specs.Held.{Node};
 
 pub use crate::children::children_of;
 use crate::walks::{next_in_order, prev_in_order};
 use index_types::NodeId;
-use tree_readings::answers::AnswerNode;
-use tree_state::{Tree, Verdict};
+use tree_state::{Refusal, Tree};
 use tree_verdicts::nodes;
-use tree_verdicts::nodes::id_of;
 
-// The parent; 256, which is no slot, stands for none.
-fn parent(t: Tree, x: u32) -> AnswerNode
-    requires { (sound_tree t ≡ true) × (tree.is_live t x ≡ true) }
-    ensures { result ≡ spec.link_of (reading.parent_of t x) }
+fn parent(tree: &Tree, id: NodeId) -> Option<NodeId>
+    requires { Node tree.now id }
+    ensures { result ≡ reading.parent_of tree.now id.0 }
 {
-    let at = link_table::position(&t.links.order, t.links.count, x);
-    let q = link_table::parent_at(&t.links.order, &t.links.depth, at, 256);
-    if q == 256 {
-        return AnswerNode::None;
-    }
-    AnswerNode::Some(id_of(&t.slots.generation, q))
+    let above = tree.links.parent_at(tree.links.position(id.0))?;
+    Some(nodes::id_at(tree, above))
 }
 
-pub fn next_depth_first(t: Tree, id: NodeId) -> AnswerNode
-    ensures { result ≡ spec.next_call t id }
+pub fn next_depth_first(tree: &Tree, id: NodeId) -> Result<Option<NodeId>, Refusal>
+    ensures { result ≡ spec.next_call tree.now id }
 {
-    match nodes::of_node(t, id) {
-        Verdict::Refused(r) => AnswerNode::Refused(r),
-        Verdict::Accepted => next_in_order(t, id.0),
-    }
+    nodes::of_node(tree, id)?;
+    Ok(next_in_order(tree, id))
 }
 
-pub fn prev_depth_first(t: Tree, id: NodeId) -> AnswerNode
-    ensures { result ≡ spec.prev_call t id }
+pub fn prev_depth_first(tree: &Tree, id: NodeId) -> Result<Option<NodeId>, Refusal>
+    ensures { result ≡ spec.prev_call tree.now id }
 {
-    match nodes::of_node(t, id) {
-        Verdict::Refused(r) => AnswerNode::Refused(r),
-        Verdict::Accepted => prev_in_order(t, id.0),
-    }
+    nodes::of_node(tree, id)?;
+    Ok(prev_in_order(tree, id))
 }
 
-pub fn parent_of(t: Tree, id: NodeId) -> AnswerNode
-    ensures { result ≡ spec.parent_call t id }
+pub fn parent_of(tree: &Tree, id: NodeId) -> Result<Option<NodeId>, Refusal>
+    ensures { result ≡ spec.parent_call tree.now id }
 {
-    match nodes::of_node(t, id) {
-        Verdict::Refused(r) => AnswerNode::Refused(r),
-        Verdict::Accepted => parent(t, id.0),
-    }
+    nodes::of_node(tree, id)?;
+    Ok(parent(tree, id))
 }

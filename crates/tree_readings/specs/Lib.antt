@@ -1,3 +1,1 @@
-pub mod answers
-pub mod boxes
-pub mod worlds
+pub mod Answers

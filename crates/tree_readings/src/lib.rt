@@ -1,72 +1,47 @@
-// The readings of the tree and of local records (tree.rs): each is refused as document 01 has it, or answers from the stored records; none changes
-// the tree.
-#![tactic(auto)]
+// The readings of the tree and of local records (tree.rs): each answers from the stored records, or is refused; none changes the tree.
+#![tactic(auto, unfolding(tree_state::specs::Tree::local_at, tree_state::specs::Locals::local_in))]
 
-pub mod answers; // what a reading answers
 pub mod boxes; // local records
 pub mod worlds; // world records
 
-ghost use Rattle.std.specs.Prelude.{◌≡◌, ◌<◌, pos, get_or};
-ghost use Rattle.tree_readings.specs.answers.Answers as spec;
+ghost use Rattle.std.specs.Prelude.{◌≡◌};
+ghost use Rattle.tree_readings.specs.Answers as spec;
 
-use crate::answers::{AnswerBool, AnswerFlags, AnswerLevel};
-use crate::boxes::byte_at;
 pub use crate::boxes::{hit_slop, local_bounds, local_clip, local_transform};
 use index_types::NodeId;
-use tree_state::{Tree, Verdict};
+use tree_state::{Refusal, Tree};
 use tree_types::NodeFlags;
 use tree_verdicts::{need, nodes};
 
 // ---- the tree
 
-pub fn needs_commit(t: Tree) -> AnswerBool
-    ensures { result ≡ spec.needs_commit_call t }
+pub fn needs_commit(tree: &Tree) -> Result<bool, Refusal>
+    ensures { result ≡ spec.needs_commit_call tree.now }
 {
-    match nodes::held(t) {
-        Verdict::Refused(r) => AnswerBool::Refused(r),
-        Verdict::Accepted => AnswerBool::Value(need::needs_commit(t)),
-    }
+    nodes::held(tree)?;
+    Ok(need::needs_commit(tree))
 }
 
 // A dead id is answered false and never refused.
-pub fn is_alive(t: Tree, id: NodeId) -> AnswerBool
-    ensures { result ≡ spec.is_alive_call t id }
+pub fn is_alive(tree: &Tree, id: NodeId) -> Result<bool, Refusal>
+    ensures { result ≡ spec.is_alive_call tree.now id }
 {
-    match nodes::held(t) {
-        Verdict::Refused(r) => AnswerBool::Refused(r),
-        Verdict::Accepted => AnswerBool::Value(nodes::is_live(
-            &t.links.order,
-            t.links.count,
-            &t.slots.generation,
-            id,
-        )),
-    }
+    nodes::held(tree)?;
+    Ok(nodes::is_live(tree, id))
 }
 
 // ---- local records
 
-// An element of a table that lies in a group of the tree.
-fn level_at(a: &[i32; 256], i: usize) -> i32
-    requires { i < 256 }
-    ensures { result ≡ get_or a.now i (pos 0) }
+pub fn z_index(tree: &Tree, id: NodeId) -> Result<i32, Refusal>
+    ensures { result ≡ spec.z_index_call tree.now id }
 {
-    a[i]
+    nodes::of_node(tree, id)?;
+    Ok(tree.locals.level[id.0 as usize])
 }
 
-pub fn z_index(t: Tree, id: NodeId) -> AnswerLevel
-    ensures { result ≡ spec.z_index_call t id }
+pub fn flags(tree: &Tree, id: NodeId) -> Result<NodeFlags, Refusal>
+    ensures { result ≡ spec.flags_call tree.now id }
 {
-    match nodes::of_node(t, id) {
-        Verdict::Refused(r) => AnswerLevel::Refused(r),
-        Verdict::Accepted => AnswerLevel::Value(level_at(&t.locals.level, id.0 as usize)),
-    }
-}
-
-pub fn flags(t: Tree, id: NodeId) -> AnswerFlags
-    ensures { result ≡ spec.flags_call t id }
-{
-    match nodes::of_node(t, id) {
-        Verdict::Refused(r) => AnswerFlags::Refused(r),
-        Verdict::Accepted => AnswerFlags::Value(NodeFlags(byte_at(&t.locals.flags, id.0 as usize))),
-    }
+    nodes::of_node(tree, id)?;
+    Ok(NodeFlags(tree.locals.flags[id.0 as usize]))
 }

@@ -1,168 +1,181 @@
--- The call from its steps: the slots that go are the subtree's, they can go, and what is left is the definition's tree.
-use mathlib.Core.Path.{◌≡◌, sym, ap, subst, ◌∙◌}
-use mathlib.Core.Bool.{true}
-use mathlib.Core.List.{List}
-use Prim.Native.Nat.{ℕ, ◌+◌, ◌-◌, ◌≤◌, ◌<◌}
-use native.Mathlib.Omega.{arith}
-use lib.ListN.{length, take, drop}
-use lib.Seq.{sets, take_at}
-use lib.Ieee.{Float}
+-- The nodes of a sound tree's subtree can go, one after the other.
+use Rattle.std.specs.Prelude.{Ok}
+use Rattle.std.proofs.Common.{◌≡◌, refl, sym, ap, subst, ◌∙◌, Bool, true, false, List, [], ◌∷◌, ◌++◌, ℕ, ◌+◌, ◌≤◌, ◌<◌, length, length-set, take, drop, ◌-◌, arith}
+use Rattle.std.proofs.Math.Seq.{take_at}
+use Rattle.counting.specs.Times.{tally, times}
+use Rattle.counting.proofs.Counting.{hit}
+use Rattle.geometry.specs.Rectangle.{has_area}
 use Rattle.index_types.specs.declared.NodeId.{NodeId}
 use Rattle.link_forest.specs.Forest.{Forest, has}
-use Rattle.link_forest.specs.Table.{post_of}
-use Rattle.index_sound.proofs.Exact.{counted}
+use Rattle.link_table.specs.Links.{in_front, between, post_order, end_of, cut_tree}
 use Rattle.link_table.specs.declared.Links.{Links}
-use Rattle.link_table.specs.Links.{between, in_front, end_of, cut_tree}
 use Rattle.link_table.proofs.Steps.{length_part, length_post}
-use Rattle.index_state.specs.declared.Index.{Index}
-use Rattle.tree_state.specs.declared.Slots.{Slots}
-use Rattle.tree_state.specs.declared.Pending.{Pending}
+use Rattle.index_types.specs.declared.Index.{Index}
+use Rattle.index_sound.specs.Sound.{CountOf, Shaped}
+use Rattle.index_sound.proofs.Exact.{counted}
+use Rattle.index_entries.specs.Entries.{Removes}
+use Rattle.index_entries.proofs.Fits as fits
 use Rattle.tree_state.specs.declared.Tree.{Tree}
-use Rattle.tree_state.specs.Lent as lent
-use Rattle.tree_state.specs.Tree.{position_of}
-use Rattle.tree_state.specs.Sound.{SoundTree}
-use Rattle.tree_steps.specs.Structure.{subtree_at, remove_tree}
-use Rattle.tree_verdicts.proofs.nodes.Lengths.{Told}
-use Rattle.tree_verdicts.proofs.nodes.Nodes.{Node}
-use Rattle.tree_laws.specs.Whole.{Whole}
+use Rattle.tree_state.specs.Tree.{stored_bounds, committed_at, key_at, position_of, Verdict}
+use Rattle.tree_state.specs.Sound.{SoundTree, count_of}
+use Rattle.tree_state.specs.Whole.{Whole}
+use Rattle.tree_steps.specs.Structure.{remove_node, remove_entry, remove_all, remove_tree, with_links, subtree_at}
+use Rattle.tree_steps.specs.Setters.{of_node, tree_if}
+use Rattle.tree_verdicts.specs.Held.{Node}
 use Rattle.tree_laws.proofs.Ground.{Linked, linked, live_has, low, subtree_post}
-use Rattle.tree_verdicts.proofs.marks.Handed.{whole}
-use Rattle.tree_invariant.proofs.remove.Fold.{pending_count, freed, gone_keys}
-use Rattle.tree_invariant.proofs.remove.Entries.{without_keys}
+use Rattle.plan.specs.Lists.{joined}
+use Rattle.plan.specs.Plan.{numbers}
+use Rattle.agreement.specs.Read.{entry_if}
+use Rattle.tree_invariant.specs.remove.Removals.{Plain}
+use Rattle.tree_invariant.proofs.remove.Entries.{first_low_lem, first_unmarked, plain_next, keep_keys, remove_one, queue_length}
+use Rattle.tree_invariant.proofs.remove.Fold.{push_count, pending_count, gone_keys}
 use Rattle.tree_invariant.proofs.remove.Keep as keep
-use Rattle.tree_remove.specs.nodes.Remove.{pending_all, keys_in, Marked}
-use Rattle.tree_remove.proofs.nodes.Loop.{Stays, Changes, ReadyFor}
+use Rattle.tree_remove.specs.Remove.{Goes, Removals}
 
--- a tree's tables
-abbrev pub stays_of : Tree → Stays
-stays_of t =
+-- there is room for all of them, and the committed ones own entries without a mark, none twice, in a sound index
+pub record Ready (t : Tree) (xs : List ℕ) : Type 0 where
+  pub low : (y : ℕ) → 1 ≤ times y xs → y < 256
+  pub room : t.slots.frees + length xs ≤ 256
+  pub pending_room : t.pending.count + count_of (λ y. has_area (stored_bounds t y)) xs ≤ 256
+  pub plain : Plain t.index.mark (gone_keys t xs)
+  pub shaped : Shaped t.index
+  pub counts : CountOf t.index.mark t.index.free t.index.frees t.index.dirty t.index.queued t.index.used
+
+-- ---- one entry
+
+plain_first : (mark : List ℕ) (k : ℕ) (ks : List ℕ) → Plain mark (k ∷ ks) → Plain mark (k ∷ [])
+unfolding times
+plain_first mark k ks P =
     record {
-      bounds = t.worlds.bounds;
-      committed = t.keys.committed;
-      slot = t.keys.slot;
-      keys_generation = t.keys.generation;
-      index_generation = t.index.generation;
+      low = λ j h. P.low j (omega arith);
+      unmarked = λ j h. P.unmarked j (omega arith);
+      once = λ j. omega (arith, P.once j);
     }
 
-abbrev pub changes_of : Tree → Changes
-changes_of t =
-    record {
-      slots_free = t.slots.free;
-      rects = t.pending.rects;
-      mark = t.index.mark;
-      index_free = t.index.free;
-      dirty = t.index.dirty;
-      f = t.slots.frees;
-      p = t.pending.count;
-      g = t.index.frees;
-      q = t.index.queued;
-    }
+module _ (ix : Index) (S : Shaped ix) (C : CountOf ix.mark ix.free ix.frees ix.dirty ix.queued ix.used) (k : ℕ) (ks : List ℕ) where
+  entry_room : (b : Bool) → Plain ix.mark (numbers (entry_if b k) ++ ks) → b ≡ true → Removes ix k
+  entry_room true P h =
+      let u = first_unmarked ix.mark k ks P in
+      fits.removes ix S C k (first_low_lem ix.mark k ks P) (λ z. omega (arith, u, z))
+  entry_room false P h = let z : ◌≡◌ {A = ℕ} 0 1 = cc in absurd (omega arith)
 
--- ---- what goes can go
+  plain_left : (b : Bool) → Plain ix.mark (numbers (entry_if b k) ++ ks) → Plain (remove_entry b ix k).mark ks
+  plain_left true P = subst (λ (r : Index). Plain r.mark ks) (sym (remove_one ix k (first_unmarked ix.mark k ks P))) (plain_next ix.mark k ks P)
+  plain_left false P = P
+
+  shaped_left : (b : Bool) → Plain ix.mark (numbers (entry_if b k) ++ ks) → Shaped (remove_entry b ix k)
+  shaped_left true P =
+      rw (remove_one ix k (first_unmarked ix.mark k ks P))
+      (record { mark_whole = length-set ix.mark k 4 ∙ S.mark_whole; free_whole = S.free_whole; dirty_whole = queue_length ix.dirty ix.queued (k ∷ []) ∙ S.dirty_whole })
+  shaped_left false P = S
+
+  counts_left : (b : Bool) → Plain ix.mark (numbers (entry_if b k) ++ ks)
+      → let r = remove_entry b ix k in CountOf r.mark r.free r.frees r.dirty r.queued r.used
+  counts_left true P =
+      subst (λ (r : Index). CountOf r.mark r.free r.frees r.dirty r.queued r.used) (sym (remove_one ix k (first_unmarked ix.mark k ks P)))
+      (keep_keys ix.free ix.frees ix.used S.free_whole ix.mark ix.dirty ix.queued (k ∷ []) S.mark_whole S.dirty_whole (plain_first ix.mark k ks P) C)
+  counts_left false P = C
+
+-- ---- the next node
+
+module _ (t : Tree) (x : ℕ) (xs : List ℕ) (R : Ready t (x ∷ xs)) where
+  plain_here : Plain t.index.mark (numbers (entry_if (committed_at t x) (key_at t x).0) ++ gone_keys t xs)
+  unfolding joined
+  plain_here = R.plain
+
+  goes : Goes t x
+  unfolding times count_of
+  goes =
+      record {
+        low = R.low x (omega (arith, hit x));
+        room = omega (arith, R.room);
+        pending_room = λ h. let o : tally (has_area (stored_bounds t x)) ≡ 1 = rw h in omega (arith, R.pending_room);
+        entry = entry_room t.index R.shaped R.counts (key_at t x).0 (gone_keys t xs) (committed_at t x) plain_here;
+      }
+
+  ready_next : Ready (remove_node t x) xs
+  unfolding times count_of
+  ready_next =
+      let k = (key_at t x).0 in
+      let ks = gone_keys t xs in
+      let b = committed_at t x in
+      let count = push_count (has_area (stored_bounds t x)) t.pending (stored_bounds t x) in
+      record {
+        low = λ y n. R.low y (omega arith);
+        room = omega (arith, R.room);
+        pending_room = omega (arith, R.pending_room, count);
+        plain = plain_left t.index R.shaped R.counts k ks b plain_here;
+        shaped = shaped_left t.index R.shaped R.counts k ks b plain_here;
+        counts = counts_left t.index R.shaped R.counts k ks b plain_here;
+      }
+
+pub removals : (t : Tree) (xs : List ℕ) → Ready t xs → Removals t xs
+unfolding Removals
+removals t [] R = tt
+removals t (x ∷ xs) R = (goes t x xs R, removals (remove_node t x) xs (ready_next t x xs R))
+
+-- ---- a subtree of a sound tree
 
 module _ (t : Tree) (w : Whole t) (S : SoundTree t) (f : Forest) (L : Linked t f) (x : ℕ) (h : has x f ≡ true) where
-  ready_gone : ReadyFor (stays_of t) (changes_of t) (keep.gone t w S f L x h)
-  ready_gone =
-      let X = t.index in
-      record {
+  pub subtree_goes : Removals t (keep.gone t w S f L x h)
+  subtree_goes =
+      removals t (keep.gone t w S f L x h)
+      (record {
         low = λ y n. low t f L y (keep.gone_has t w S f L x h y n);
         room = keep.room t w S f L x h;
         pending_room = omega (arith, pending_count t.worlds.bounds t.pending (keep.gone t w S f L x h), (keep.sound_after t w S f L x h).pending_fits);
         plain = keep.plain t w S f L x h;
-        under_key = λ y n c. (S.committed y (keep.live_of t w S f L x h y (keep.gone_has t w S f L x h y n)) c).under_key;
-        used = X.used;
-        index = counted X.mark X.free X.frees X.dirty X.queued X.used w.index.mark w.index.free w.index.dirty S.index;
-        mark_long = w.index.mark;
-        free_long = w.index.free;
-        dirty_long = w.index.dirty;
-      }
+        shaped = record { mark_whole = w.index.mark; free_whole = w.index.free; dirty_whole = w.index.dirty };
+        counts = counted t.index.mark t.index.free t.index.frees t.index.dirty t.index.queued t.index.used w.index.mark w.index.free w.index.dirty S.index;
+      })
 
--- ---- the tree, from its parts
+-- ---- the call: the slots that go stand in front of the room
 
-abbrev parts : Tree → Slots → Links → Pending → Index → Tree
-parts t s l p ix = lent.tree s l t.locals t.worlds t.marks t.keys p ix
+pub links_stay : (t : Tree) (xs : List ℕ) → (remove_all t xs).links ≡ t.links
+unfolding remove_all
+links_stay t [] = refl
+links_stay t (x ∷ xs) = links_stay (remove_node t x) xs
 
-abbrev slots_with : Slots → List ℕ → ℕ → Slots
-slots_with s free frees = lent.slots s.generation s.used free frees
-
-abbrev index_with : Index → List ℕ → List ℕ → ℕ → List ℕ → ℕ → Index
-index_with ix mark free frees dirty queued =
-    lent.index ix.generation mark ix.payload ix.aabb ix.kept ix.prev ix.used free frees dirty queued ix.backend
-
-slots_left : (s : Slots) (xs free : List ℕ) (frees : ℕ) → free ≡ sets s.free s.frees xs → frees ≡ s.frees + length xs → slots_with s free frees ≡ freed s xs
-slots_left s xs free frees e n = rw (e, n)
-
-index_left : (ix : Index) (ks mark free : List ℕ) (frees : ℕ) (dirty : List ℕ) (queued : ℕ) → Marked ks ix.mark ix.dirty ix.queued mark dirty queued
-    → free ≡ ix.free → frees ≡ ix.frees → index_with ix mark free frees dirty queued ≡ without_keys ix ks
-index_left ix ks mark free frees dirty queued M e n = rw (M.mark_is, M.dirty_is, M.queued_is, e, n)
-
--- ---- the call
-
-module _ (t : Tree) (g : Told t) (i : NodeId) (N : Node t i) (at e : ℕ) (is_at : at ≡ position_of t i.0) (is-end : e ≡ end_of t.links at) (from : at < e) (to : e ≤ t.links.count)
-    (gone room : List ℕ) (posted : gone ≡ in_front (post_of (between at e t.links.order) (between at e t.links.depth)) room) where
+module _ (t : Tree) (i : NodeId) (N : Node t i) (at end : ℕ) (is_at : at ≡ position_of t i.0) (is_end : end ≡ end_of t.links at) (from : at < end) (to : end ≤ t.links.count)
+    (gone room : List ℕ) (posted : gone ≡ in_front (post_order t.links at end) room) where
   abbrev w : Whole t
-  w = whole t g
-
-  abbrev S : SoundTree t
-  S = N.whole.sound
+  w = N.held.whole
 
   abbrev F : (f : Forest) × Linked t f
-  F = linked t w S
+  F = linked t w N.held.sound
 
   there : has i.0 F.0 ≡ true
   there = sym (live_has t F.0 F.1 i.0) ∙ N.is_live_lem
 
-  abbrev all : List ℕ
-  all = keep.gone t w S F.0 F.1 i.0 there
+  post_long : length (post_order t.links at end) ≡ end - at
+  post_long =
+      let order = length_part at end t.links.order (omega arith) (omega (arith, w.links.order, N.held.count_fits)) in
+      let depth = length_part at end t.links.depth (omega arith) (omega (arith, w.links.depth, N.held.count_fits)) in
+      length_post (between at end t.links.order) (between at end t.links.depth) (order ∙ sym depth) ∙ order
 
-  order_long : length (between at e t.links.order) ≡ e - at
-  order_long = length_part at e t.links.order (omega arith) (omega (arith, w.links.order, N.whole.count_fits))
-
-  depth_long : length (between at e t.links.depth) ≡ e - at
-  depth_long = length_part at e t.links.depth (omega arith) (omega (arith, w.links.depth, N.whole.count_fits))
-
-  post_long : length (post_of (between at e t.links.order) (between at e t.links.depth)) ≡ e - at
-  post_long = length_post (between at e t.links.order) (between at e t.links.depth) (order_long ∙ sym depth_long) ∙ order_long
-
-  -- the slots that go
-  listed : take (e - at) gone ≡ all
+  -- the subtree's, children first
+  pub listed : take (end - at) gone ≡ subtree_at t.links (position_of t i.0)
   listed =
-      let l = t.links in
-      ap (take (e - at)) posted
-      ∙ take_at (post_of (between at e l.order) (between at e l.depth)) (drop (length (post_of (between at e l.order) (between at e l.depth))) room) (e - at) post_long
-      ∙ ap (λ (k : ℕ). post_of (between at k l.order) (between at k l.depth)) is-end
-      ∙ ap (λ (a : ℕ). subtree_at l a) is_at
-      ∙ subtree_post t F.0 F.1 i.0 there
+      ap (take (end - at)) posted
+      ∙ take_at (post_order t.links at end) (drop (length (post_order t.links at end)) room) (end - at) post_long
+      ∙ ap (post_order t.links at) is_end
+      ∙ ap (subtree_at t.links) is_at
 
-  listed_long : length all ≡ e - at
-  listed_long =
-      let l = t.links in
-      ap length (sym listed ∙ ap (take (e - at)) posted
-      ∙ take_at (post_of (between at e l.order) (between at e l.depth)) (drop (length (post_of (between at e l.order) (between at e l.depth))) room) (e - at) post_long)
-      ∙ post_long
+  pub all_go : Removals t (take (end - at) gone)
+  all_go =
+      subst (Removals t) (sym (listed ∙ subtree_post t F.0 F.1 i.0 there)) (subtree_goes t w N.held.sound F.0 F.1 i.0 there)
 
-  pub ready : ReadyFor (stays_of t) (changes_of t) (take (e - at) gone)
-  ready = subst (ReadyFor (stays_of t) (changes_of t)) (sym listed) (ready_gone t w S F.0 F.1 i.0 there)
+  module _ (R : Tree) (e : R ≡ remove_all t (take (end - at) gone)) where
+    stay : R.links ≡ t.links
+    stay = ap (λ (u : Tree). u.links) e ∙ links_stay t (take (end - at) gone)
 
-  pub few : e - at ≤ 256
-  few = omega (arith, N.whole.count_fits)
+    pub cut_fits : (at < R.links.count) × (R.links.count ≤ 256)
+    cut_fits = rw stay (omega (arith, from, to), N.held.count_fits)
 
-  pub done : (links : Links) (slots_free : List ℕ) (slots-frees : ℕ) (rects : List Float) (count : ℕ)
-      (mark index_free : List ℕ) (index-frees : ℕ) (dirty : List ℕ) (queued : ℕ)
-      → links ≡ cut_tree t.links at → slots_free ≡ sets t.slots.free t.slots.frees (take (e - at) gone) → slots-frees ≡ t.slots.frees + (e - at)
-      → lent.pending rects count ≡ pending_all t.worlds.bounds (lent.pending t.pending.rects t.pending.count) (take (e - at) gone)
-      → Marked (keys_in t.keys.committed t.keys.slot (take (e - at) gone)) t.index.mark t.index.dirty t.index.queued mark dirty queued
-      → index_free ≡ t.index.free → index-frees ≡ t.index.frees
-      → parts t (slots_with t.slots slots_free slots-frees) links (lent.pending rects count) (index_with t.index mark index_free index-frees dirty queued)
-      ≡ remove_tree t (position_of t i.0)
-  done links slots_free slots-frees rects count mark index_free index-frees dirty queued cut e1 e2 e3 e4 e5 e6 =
-      let s = slots_left t.slots all slots_free slots-frees (e1 ∙ ap (sets t.slots.free t.slots.frees) listed) (e2 ∙ ap (λ (n : ℕ). t.slots.frees + n) (sym listed_long)) in
-      let p : lent.pending rects count ≡ pending_all t.worlds.bounds t.pending all = e3 ∙ ap (pending_all t.worlds.bounds t.pending) listed in
-      let x = index_left t.index (gone_keys t all) mark index_free index-frees dirty queued
-      (subst (λ (l : List ℕ). Marked (keys_in t.keys.committed t.keys.slot l) t.index.mark t.index.dirty t.index.queued mark dirty queued) listed e4) e5 e6 in
-      let ix = index_with t.index mark index_free index-frees dirty queued in
-      ap (λ (v : Slots). parts t v links (lent.pending rects count) ix) s
-      ∙ ap (λ (v : Links). parts t (freed t.slots all) v (lent.pending rects count) ix) (cut ∙ ap (cut_tree t.links) is_at)
-      ∙ ap (λ (v : Pending). parts t (freed t.slots all) (cut_tree t.links (position_of t i.0)) v ix) p
-      ∙ ap (λ (v : Index). parts t (freed t.slots all) (cut_tree t.links (position_of t i.0)) (pending_all t.worlds.bounds t.pending all) v) x
-      ∙ sym (keep.removes_to t w S F.0 F.1 i.0 there)
+    pub left : (L : Links) → L ≡ cut_tree R.links at → of_node t i ≡ Ok tt → with_links R L ≡ tree_if (of_node t i) (remove_tree t (position_of t i.0)) t
+    unfolding remove_tree
+    left L f v =
+        let x = position_of t i.0 in
+        ap (with_links R) (f ∙ ap (λ (l : Links). cut_tree l at) stay ∙ ap (cut_tree t.links) is_at)
+        ∙ ap (λ (u : Tree). with_links u (cut_tree t.links x)) (e ∙ ap (remove_all t) listed)
+        ∙ sym (ap (λ (w : Verdict). tree_if w (with_links (remove_all t (subtree_at t.links x)) (cut_tree t.links x)) t) v)

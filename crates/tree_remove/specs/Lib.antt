@@ -1,2 +1,1 @@
-pub mod steps
-pub mod nodes
+pub mod Remove

@@ -1,74 +1,79 @@
-// tree.rs's `remove`, by value: the nodes of a subtree go, children first in order. Of each its world box is pending if it has area, its entry is
-// marked removed and its slot freed. A refused call returns the tree as it was given.
+// tree.rs's `remove`: the nodes of a subtree go, children first in order. Of each its world box is pending if it has area, its entry is
+// marked removed and its slot freed. A refused call leaves the tree as it is.
 #![tactic(auto)]
 
-pub mod nodes; // the nodes, one after the other
-pub mod steps; // one node
-
-ghost use Rattle.std.specs.Prelude.{◌≡◌};
+ghost use Rattle.std.specs.Prelude.{◌≡◌, true, ◌<◌};
+ghost use Rattle.geometry.specs.Rectangle.{has_area};
+ghost use Rattle.index_entries.specs.Entries.{Removes};
 ghost use Rattle.tree_steps.specs.Structure as step;
+ghost use Rattle.tree_remove.specs.Remove as spec;
 
-use crate::nodes::remove_nodes;
-use index_types::NodeId;
-use link_table::{moves, segments};
-use tree_state::{After, Tree, Verdict};
+use geometry::rect::Rect;
+use index_types::{Index, NodeId};
+use tree_state::{Pending, Refusal, Slots, Tree};
 
-pub fn remove(mut t: Tree, id: NodeId) -> After
-    ensures { result ≡ step.remove_call t id }
+pub fn remove(tree: &mut Tree, id: NodeId) -> Result<(), Refusal>
+    ensures answer { result ≡ (step.remove_call tree.old id).answer }
+    ensures tree { tree.new ≡ (step.remove_call tree.old id).tree }
 {
-    let v = tree_verdicts::nodes::of_node(t, id);
-    let Verdict::Accepted = v else {
-        return After { answer: v, tree: t };
-    };
-    let l = t.links;
-    let at = link_table::position(&l.order, l.count, id.0);
-    let e = link_table::segment_end(&l.depth, l.count, at);
+    tree_verdicts::nodes::of_node(tree, id)?;
+    let at = tree.links.position(id.0);
+    let end = tree.links.segment_end(at);
     let mut gone = [0u32; 256];
-    segments::post_order(&l.order, &l.depth, at, e, &mut gone);
-    let mut slots = t.slots;
-    let worlds = t.worlds;
-    let keys = t.keys;
-    let mut pending = t.pending;
-    let mut index = t.index;
-    let mut slots_free = slots.free;
-    let mut rects = pending.rects;
-    let mut mark = index.mark;
-    let mut index_free = index.free;
-    let mut dirty = index.dirty;
-    let left = remove_nodes(
-        &gone,
-        e - at,
-        &worlds.bounds,
-        &keys.committed,
-        &keys.slot,
-        &keys.generation,
-        &index.generation,
-        &index.payload,
-        &index.aabb,
-        &index.kept,
-        &index.prev,
-        &mut slots_free,
-        &mut rects,
-        &mut mark,
-        &mut index_free,
-        &mut dirty,
-        slots.frees,
-        pending.count,
-        index.frees,
-        index.queued,
-    );
-    t.links = moves::cut_tree(l, at);
-    slots.free = slots_free;
-    slots.frees = left.slots_frees;
-    pending.rects = rects;
-    pending.count = left.pending_count;
-    index.mark = mark;
-    index.free = index_free;
-    index.frees = left.index_frees;
-    index.dirty = dirty;
-    index.queued = left.queued;
-    t.slots = slots;
-    t.pending = pending;
-    t.index = index;
-    After { answer: v, tree: t }
+    tree.links.post_order(at, end, &mut gone);
+    remove_nodes(tree, &gone[..end - at]);
+    tree.links.cut_tree(at);
+    Ok(())
+}
+
+// These nodes go, one after the other.
+fn remove_nodes(tree: &mut Tree, gone: &[u32])
+    requires { spec.Removals tree.old gone.now }
+    ensures { tree.new ≡ step.remove_all tree.old gone.now }
+{
+    for slot in gone {
+        remove_node(tree, *slot);
+    }
+}
+
+// One node goes.
+fn remove_node(tree: &mut Tree, slot: u32)
+    requires { spec.Goes tree.old slot }
+    ensures { tree.new ≡ step.remove_node tree.old slot }
+{
+    let at = slot as usize;
+    let rect = node_tables::rect_at(&tree.worlds.bounds, at);
+    push_rect(&mut tree.pending, rect);
+    remove_entry(&mut tree.index, tree.keys.committed[at], tree.keys.slot[at]);
+    free_slot(&mut tree.slots, slot);
+}
+
+// The rectangle comes behind the pending ones, if it has area.
+fn push_rect(pending: &mut Pending, rect: Rect)
+    requires { has_area rect ≡ true → pending.old.count < 256 }
+    ensures { pending.new ≡ step.push_rect (has_area rect) pending.old rect }
+{
+    if rect.has_area() {
+        node_tables::put_rect(&mut pending.rects, pending.count, rect);
+        pending.count += 1;
+    }
+}
+
+// The entry of a committed node goes.
+fn remove_entry(index: &mut Index, committed: bool, slot: u32)
+    requires { committed ≡ true → Removes index.old slot }
+    ensures { index.new ≡ step.remove_entry committed index.old slot }
+{
+    if committed {
+        index_entries::remove_entry(index, slot);
+    }
+}
+
+// The slot is the next that an insert takes.
+fn free_slot(slots: &mut Slots, slot: u32)
+    requires { slots.old.frees < 256 }
+    ensures { slots.new ≡ step.free_slot slots.old slot }
+{
+    slots.free[slots.frees] = slot;
+    slots.frees += 1;
 }

@@ -1,2 +1,4 @@
 pub mod Node
 pub mod Loop
+pub mod Rooms
+pub mod Parents

@@ -1,4 +1,3 @@
 pub mod entries
-pub mod boxes
-pub mod worlds
+pub mod Damage
 pub mod preconditions

@@ -1,64 +1,57 @@
-// The world record of a node over lent tables (tree.rs: update_world_subtree).
-ghost use Rattle.std.specs.Prelude.{◌≡◌, ℕ, ◌<◌, length, get_or, set};
-ghost use Rattle.node_tables.specs.Tables.{put_affine, is_there, put_clip_rect};
-ghost use Rattle.tree_rework.specs.worlds.Places as spec;
+// The world record of a node: its transform and clip from what its parent hands down, and the record stored (tree.rs: update_world_subtree).
+ghost use Rattle.std.specs.Prelude.{◌≡◌, ℕ, ◌<◌};
+ghost use Rattle.tree_state.specs.Tree as state;
+ghost use Rattle.tree_steps.specs.Commit as spec;
+ghost use Rattle.tree_rework.specs.preconditions.Fits.{slot_at};
 
+use geometry::rect::Rect;
+use tree_state::{Tree, Worlds};
 use tree_worlds::Placed;
 
-// What the position `at` gets from above: the parent's stored transform and clip, or those above a root.
-fn handed_down<'a>(
-    order: &'a [u32; 256],
-    depth: &'a [u32; 256],
-    transform: &'a [f64; 1536],
-    clipped: &'a [bool; 256],
-    clip: &'a [f64; 1024],
-    at: usize,
-) -> Placed
-    requires { (at < 256) × (length order.now ≡ 256) × (length depth.now ≡ 256) × ((j : ℕ) → j < at → get_or order.now j 0 < 256) }
-    ensures { let above = spec.above_at order.now depth.now at in
-        result ≡ spec.handed transform.now clipped.now clip.now above }
+// What the slot x hands down, as stored.
+fn stored_place(tree: &Tree, x: usize) -> Placed
+    requires { x < 256 }
+    ensures { result ≡ state.stored_place tree.now x }
 {
-    let parent = link_table::parent_at(order, depth, at, 256);
-    if parent >= 256 {
-        return tree_worlds::at_root();
-    }
-    let q = parent as usize;
     Placed {
-        transform: node_tables::affine_at(transform, q),
-        clip: node_tables::clip_rect_at(clipped[q], clip, q),
+        transform: node_tables::affine_at(&tree.worlds.transform, x),
+        clip: node_tables::clip_rect_at(tree.worlds.clipped[x], &tree.worlds.clip, x),
     }
 }
 
-// Inner: the world transform and clip of the slot x at the position `at`, worked out and stored.
-pub(crate) fn place_node<'a>(
-    order: &'a [u32; 256],
-    depth: &'a [u32; 256],
-    locals_transform: &'a [f64; 1536],
-    kind: &'a [u8; 256],
-    locals_clip: &'a [f64; 2048],
-    worlds_transform: &mut [f64; 1536],
-    clipped: &mut [bool; 256],
-    worlds_clip: &mut [f64; 1024],
-    at: usize,
-    x: usize,
-) -> Placed
-    requires { (x < 256) × (at < 256) × (length order.now ≡ 256) × (length depth.now ≡ 256)
-        × ((j : ℕ) → j < at → get_or order.now j 0 < 256) }
-    ensures place { let above = spec.above_at order.now depth.now at in
-        let parent = spec.handed worlds_transform.old clipped.old worlds_clip.old above in
-        result ≡ spec.place parent locals_transform.now kind.now locals_clip.now x }
-    ensures transforms { worlds_transform.new ≡ put_affine worlds_transform.old x result.transform }
-    ensures there { clipped.new ≡ set clipped.old x (is_there result.clip) }
-    ensures clips { worlds_clip.new ≡ put_clip_rect worlds_clip.old x result.clip }
+// What the position `at` gets from above: the parent's stored transform and clip, or those above a root.
+#[tactic(auto, using(crate::proofs::Parents::above_root, crate::proofs::Parents::above_child, crate::proofs::Parents::parent_low))]
+fn handed_down(tree: &Tree, at: usize) -> Placed
+    requires { (at < 256) × ((j : ℕ) → j < at → slot_at tree.now j < 256) }
+    ensures { result ≡ spec.handed_down tree.now (spec.ancestors tree.now at) }
 {
-    let parent = handed_down(order, depth, worlds_transform, clipped, worlds_clip, at);
-    let own = node_tables::affine_at(locals_transform, x);
-    let own_clip = node_tables::clip_at(kind[x], locals_clip, x);
-    let w = tree_worlds::place(parent, own, own_clip);
-    let t = w.transform;
-    let c = w.clip;
-    node_tables::put_affine(worlds_transform, x, t);
-    clipped[x] = node_tables::has_clip_rect(c);
-    node_tables::put_clip_rect(worlds_clip, x, c);
-    w
+    match tree.links.parent_at(at) {
+        None => tree_worlds::at_root(),
+        Some(parent) => stored_place(tree, parent as usize),
+    }
+}
+
+// Inner: the world transform and clip of the slot x at the position `at`.
+pub(crate) fn place_node(tree: &Tree, at: usize, x: usize) -> Placed
+    requires { (x < 256) × (at < 256) × ((j : ℕ) → j < at → slot_at tree.now j < 256) }
+    ensures { result ≡ spec.new_place tree.now at x }
+{
+    let parent = handed_down(tree, at);
+    let own = node_tables::affine_at(&tree.locals.transform, x);
+    let clip = node_tables::clip_at(tree.locals.kind[x], &tree.locals.clip, x);
+    tree_worlds::place(parent, own, clip)
+}
+
+// Inner: the world record of the slot x: transform and clip, world box and hit box.
+pub(crate) fn store_world(worlds: &mut Worlds, x: usize, placed: Placed, bounds: Rect, hit: Rect)
+    requires { x < 256 }
+    ensures { worlds.new ≡ spec.store_world worlds.old x placed bounds hit }
+{
+    let transform = placed.transform;
+    let clip = placed.clip;
+    node_tables::put_affine(&mut worlds.transform, x, transform);
+    worlds.clipped[x] = node_tables::has_clip_rect(clip);
+    node_tables::put_clip_rect(&mut worlds.clip, x, clip);
+    node_tables::put_rect(&mut worlds.bounds, x, bounds);
+    node_tables::put_rect(&mut worlds.hit_bounds, x, hit);
 }

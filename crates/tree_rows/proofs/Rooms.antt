@@ -1,4 +1,5 @@
 -- Worked rows of lent room, each by computation: results stand in front, what is behind them stays, and a refused call leaves all of it.
+use Rattle.std.specs.Prelude.{Ok, Err, None, Some}
 use Prim.Native.Nat.{ℕ}
 use mathlib.Core.Path.{◌≡◌, refl}
 use mathlib.Core.List.{List, [], ◌∷◌}
@@ -16,17 +17,15 @@ use Rattle.index_commit.specs.Commit as damage
 use Rattle.index_query.specs.Query as query
 use Rattle.index_state.specs.Index.{fresh_index}
 use Rattle.index_state.specs.Calls.{query_room}
-use Rattle.tree_types.specs.declared.OptionNodeId.TheVariants as node
 use Rattle.plan.proofs.Rows.{num, id, ten, a, b}
 use Rattle.tree_state.specs.declared.Tree.{Tree}
 use Rattle.tree_state.specs.declared.Refusal.TheVariants as no
-use Rattle.tree_state.specs.declared.Verdict.TheVariants as is
 use Rattle.tree_state.specs.Tree.{fresh_tree}
 use Rattle.tree_steps.specs.Structure.{insert_tree}
 use Rattle.tree_steps.specs.Commit.{rects_in_front}
 use Rattle.tree_steps.specs.Readings.{children_of}
 use Rattle.tree_steps.specs.Requests.{ids_in_front, room_if}
-use Rattle.tree_readings.specs.answers.Answers.{children_room}
+use Rattle.tree_readings.specs.Answers.{children_room}
 use Rattle.tree_rows.proofs.Rows as rows
 
 -- five numbers, and five floats
@@ -63,10 +62,10 @@ entries = (refl, refl, refl, refl)
 
 -- children: a node with one child
 unfoldable pub family : Tree
-family = insert_tree (insert_tree fresh_tree node.None ten) (node.Some a) ten
+family = insert_tree (insert_tree fresh_tree None ten) (Some a) ten
 
-pub children : (room_if is.Accepted (b ∷ []) room ≡ 1 ∷ 1 ∷ 7 ∷ 8 ∷ 9 ∷ [])
-    × (room_if (is.Refused no.DeadNode) (b ∷ []) room ≡ room)
+pub children : (room_if (Ok tt) (b ∷ []) room ≡ 1 ∷ 1 ∷ 7 ∷ 8 ∷ 9 ∷ [])
+    × (room_if (Err no.DeadNode) (b ∷ []) room ≡ room)
     × (children_room family a room ≡ room)  -- refused: room for fewer than 256 ids
     × (children_room family (id 0 2) (replicate 513 7) ≡ replicate 513 7)  -- refused: another generation
     × (children_room family a (replicate 513 7) ≡ 1 ∷ 1 ∷ replicate 511 7)

@@ -1,4 +1,5 @@
 -- Worked rows of the tree's definitions, each by computation: the same lists of calls that pin the plan's.
+use Rattle.std.specs.Prelude.{Some}
 use Prim.Native.Nat.{ℕ}
 use mathlib.Core.Path.{◌≡◌, refl}
 use mathlib.Core.List.{List, [], ◌∷◌, map}
@@ -15,13 +16,12 @@ use Rattle.index_entries.specs.Entries.{next_generation, queue_with, length_with
 use Rattle.index_commit.specs.Commit.{act_of, box_before, moved_from, moved_to, work_step, work}
 use Rattle.index_query.specs.Query as query
 use Rattle.index_state.specs.Index.{fresh_index, work_of, rect_slots, point_slots}
-use Rattle.tree_types.specs.declared.OptionNodeId.TheVariants as node
 use Rattle.tree_types.specs.Local.{flags}
 use Rattle.node_tables.specs.Tables.{rect_at, put_rect, insets_at, put_insets, affine_at, put_affine, clip_at, kind_of, edges_from, put_clip, clip_rect_at, is_there, put_clip_rect}
 use Rattle.link_forest.specs.Table.{less_deep, run_length, seg_end, index_of, post_of, depths_from}
 use Rattle.link_table.specs.Links.{after_cut, splice, add_root, add_last, cut_tree, graft, graft_last, move_last, move_root}
 use Rattle.tree_state.specs.declared.Tree.{Tree}
-use Rattle.tree_state.specs.Tree.{number_of, number_in, checked_next, checked, fresh_tree, live, local_at, some, any_of, needs_commit}
+use Rattle.tree_state.specs.Tree.{number_of, number_in, fresh_tree, live, local_at, some, any_of, needs_commit}
 use Rattle.tree_state.specs.Sound.{count_of, count_below, every_of, slots_right, node_right, entry_right, counts_right, sound_tree}
 use Rattle.tree_steps.specs.Setters.{set_transform, set_clip, set_bounds, set_slop, set_level, set_flags}
 use Rattle.tree_steps.specs.Structure.{insert_tree, remove_all, remove_tree, reparent_tree}
@@ -29,10 +29,7 @@ use Rattle.tree_steps.specs.SlotOrder.{put_in, slots_below}
 use Rattle.tree_steps.specs.Commit.{ancestors, positions_from, walk_all, handed_down, rework, rework_all, rects_of, commit_tree}
 use Rattle.tree_steps.specs.Requests.{ids_in_front, room_if, keep_of, in_stored_clips, fine, stronger, strongest, hit_node, path_to, rect_nodes, point_nodes}
 use Rattle.tree_insert.specs.Insert.{insert_call}
-use Rattle.tree_commit.specs.Commit.{after_work, commit_call, committed_number}
-use Rattle.tree_readings.specs.answers.Answers as reads
-use Rattle.tree_listings.specs.Listings.{listed_if}
-use Rattle.tree_taps.specs.Taps.{tapped_if}
+use Rattle.tree_commit.specs.Commit.{after_work, commit_call}
 use Rattle.plan.specs.Afresh as afresh
 use Rattle.plan.specs.Calls as call
 use Rattle.plan.specs.Calls.{Call, Outcome}
@@ -62,11 +59,10 @@ unfolding plan.computed after listing tap_at refusals places half_clip hidden st
     box_at put_box id_at put_id times every once_below sound_of next_generation queue_with length_with mark_of previous_at slot_for used_for generation_for act_of
     box_before moved_from moved_to work_step work query.slots fresh_index work_of rect_slots point_slots rect_at put_rect insets_at put_insets affine_at put_affine
     clip_at kind_of edges_from put_clip clip_rect_at is_there put_clip_rect run_length seg_end index_of post_of depths_from after_cut splice add_root add_last cut_tree
-    graft graft_last move_last move_root number_of checked_next checked fresh_tree live local_at some any_of needs_commit count_of count_below every_of slots_right
+    graft graft_last move_last move_root number_of fresh_tree live local_at some any_of needs_commit count_of count_below every_of slots_right
     node_right entry_right counts_right sound_tree set_transform set_clip set_bounds set_slop set_level set_flags insert_tree remove_all remove_tree reparent_tree
     less_deep ancestors put_in slots_below positions_from walk_all handed_down rework rework_all rects_of commit_tree keep_of in_stored_clips fine stronger
-    strongest hit_node path_to rect_nodes point_nodes demand.outcomes insert_call commit_call after_work committed_number number_in listed_if tapped_if room_if ids_in_front
-    reads.bool_if reads.transform_if reads.rect_if reads.bool_number reads.transform_number reads.rect_number
+    strongest hit_node path_to rect_nodes point_nodes demand.outcomes insert_call commit_call after_work number_in room_if ids_in_front
 computed = tt
 
 -- the order of entries: a covered node is entered in its ancestor's walk; new entries are taken before removed ones are freed
@@ -76,7 +72,7 @@ unfolding computed
 orders = (refl, refl)
 
 -- a value set and set back still counts
-pub set_back : (listing (root ∷ settle ∷ child a ∷ child a ∷ call.reparent b (node.Some a) ∷ call.set_local_transform a (shifted 1 0) ∷ call.set_local_transform a identity ∷ settle ∷ [])
+pub set_back : (listing (root ∷ settle ∷ child a ∷ child a ∷ call.reparent b (Some a) ∷ call.set_local_transform a (shifted 1 0) ∷ call.set_local_transform a identity ∷ settle ∷ [])
     ≡ listed (a ∷ c ∷ b ∷ []))
 unfolding computed
 set_back = refl
@@ -89,7 +85,7 @@ unfolding computed
 taps = (refl, refl, refl)
 
 -- refusals, and a box that has moved twice
-pub lists : (refusals (child a ∷ root ∷ child a ∷ call.reparent a (node.Some b) ∷ call.remove c ∷ call.commit (floats 2047) ∷ call.read (call.world_bounds a) ∷ settle ∷ call.read (call.world_bounds a) ∷ [])
+pub lists : (refusals (child a ∷ root ∷ child a ∷ call.reparent a (Some b) ∷ call.remove c ∷ call.commit (floats 2047) ∷ call.read (call.world_bounds a) ∷ settle ∷ call.read (call.world_bounds a) ∷ [])
     ≡ 3 ∷ 0 ∷ 0 ∷ 4 ∷ 2 ∷ 8 ∷ 7 ∷ 0 ∷ 0 ∷ [])
     × (tap_at (root ∷ settle ∷ call.set_local_transform a (shifted 20 0) ∷ settle ∷ call.set_local_transform a (shifted 40 0) ∷ settle ∷ []) 45 5 ≡ tapped (afresh.hit a (a ∷ [])))
 unfolding computed

@@ -1,25 +1,17 @@
 -- Every call of the run in one form: its verdict, and what an accepted one leaves and tells; a refused one leaves the tree and the lent room, and
 -- gives its number alone.
+use Rattle.std.specs.Prelude.{Ok, Err}
 use mathlib.Core.Path.{◌≡◌, refl, ap, ◌∙◌}
-use mathlib.Core.Bool.{Bool}
 use mathlib.Core.List.{List, [], ◌∷◌, ◌++◌}
 use Prim.Native.Nat.{ℕ}
 use lib.Ieee.{Float}
-use lib.IntN.{ℤ}
 use lib.ListN.{length, drop}
 use Rattle.geometry.specs.declared.rect.Rect.{Rect}
-use Rattle.geometry.specs.declared.insets.Insets.{Insets}
-use Rattle.geometry.specs.declared.affine.Affine.{Affine}
-use Rattle.geometry_clips.specs.declared.clip.Clip.{Clip}
 use Rattle.index_types.specs.declared.NodeId.{NodeId}
 use Rattle.tree_types.specs.declared.NodeFlags.{NodeFlags}
-use Rattle.tree_types.specs.declared.OptionNodeId.{OptionNodeId}
-use Rattle.tree_types.specs.declared.OptionNodeId.TheVariants as node
 use Rattle.tree_state.specs.declared.Tree.{Tree}
 use Rattle.tree_state.specs.declared.Refusal.{Refusal}
-use Rattle.tree_state.specs.declared.Verdict.{Verdict}
-use Rattle.tree_state.specs.declared.Verdict.TheVariants as is
-use Rattle.tree_state.specs.Tree.{number_of, number_in, position_of, id_at, live, local_at, needs_commit, stored_place, stored_bounds, stored_hit_bounds}
+use Rattle.tree_state.specs.Tree.{number_of, number_in, position_of, id_at, live, local_at, needs_commit, stored_place, stored_bounds, stored_hit_bounds, Verdict, value_if}
 use Rattle.tree_steps.specs.Setters as set
 use Rattle.tree_steps.specs.Structure as structure
 use Rattle.tree_steps.specs.Commit as steps
@@ -28,10 +20,8 @@ use Rattle.tree_steps.specs.Readings.{parent_of, children_of, next_of, prev_of, 
 use Rattle.tree_insert.specs.Insert as insert
 use Rattle.tree_commit.specs.Commit as commit
 use Rattle.tree_damage.proofs.Front.{rects_front}
-use Rattle.tree_readings.specs.answers.Answers as reads
-use Rattle.tree_listings.specs.Listings as listing
 use Rattle.tree_taps.specs.Taps as tap
-use Rattle.tree_run.specs.Told.{number_told, insert_told, damage_told, ids_of, listing_told, tap_told, children_told, answer_number}
+use Rattle.tree_run.specs.Told.{number_told, insert_told, damage_told, ids_of, listing_told, tap_told, answer_number}
 use Rattle.tree_run.specs.Run as run
 use Rattle.agreement_calls.proofs.requests.Answers.{answered}
 use Rattle.agreement_calls.proofs.requests.Tap.{tap_of}
@@ -104,27 +94,27 @@ told t (call.read r) = call.nothing
 told t (call.request q asked room) = call.nothing
 
 abbrev pub told_if : Verdict → Told → Told
-told_if is.Accepted x = x
-told_if (is.Refused r) x = call.nothing
+told_if (Ok tt) x = x
+told_if (Err r) x = call.nothing
 
 abbrev pub outcome_if : Verdict → Told → Outcome
 outcome_if v x = record { refused = number_in v; told = told_if v x }
 
 -- the refusal of that verdict, or what is found
 abbrev pub answer_if : Verdict → Answer → Answer
-answer_if is.Accepted found = found
-answer_if (is.Refused r) found = refused (number_of r)
+answer_if (Ok tt) found = found
+answer_if (Err r) found = refused (number_of r)
 
 -- ---- the tree after a call
 
 if_same : (v : Verdict) (t : Tree) → t ≡ set.tree_if v t t
-if_same is.Accepted t = refl
-if_same (is.Refused r) t = refl
+if_same (Ok tt) t = refl
+if_same (Err r) t = refl
 
 commit_leaves : (v : Verdict) (t : Tree) → (commit.after_work v t (steps.commit_tree t)).tree ≡ set.tree_if v (steps.commit_tree t).tree t
 unfolding commit.after_work
-commit_leaves is.Accepted t = refl
-commit_leaves (is.Refused r) t = refl
+commit_leaves (Ok tt) t = refl
+commit_leaves (Err r) t = refl
 
 pub step_is : (t : Tree) (c : Call) → run.step t c ≡ set.tree_if (verdict t c) (accepted t c) t
 unfolding run.step verdict accepted insert.insert_call commit.commit_call
@@ -143,69 +133,28 @@ step_is t (call.request q asked room) = if_same (request.request_verdict t asked
 
 -- ---- readings: the number that each answers is its verdict's
 
-bool_number_lem : (v : Verdict) (b : Bool) → reads.bool_number (reads.bool_if v b) ≡ number_in v
-unfolding reads.bool_number reads.bool_if number_in
-bool_number_lem is.Accepted b = refl
-bool_number_lem (is.Refused q) b = refl
-
-transform_number_lem : (v : Verdict) (a : Affine) → reads.transform_number (reads.transform_if v a) ≡ number_in v
-unfolding reads.transform_number reads.transform_if number_in
-transform_number_lem is.Accepted a = refl
-transform_number_lem (is.Refused q) a = refl
-
-clip_number_lem : (v : Verdict) (c : Clip) → reads.clip_number (reads.clip_if v c) ≡ number_in v
-unfolding reads.clip_number reads.clip_if number_in
-clip_number_lem is.Accepted c = refl
-clip_number_lem (is.Refused q) c = refl
-
-rect_number_lem : (v : Verdict) (b : Rect) → reads.rect_number (reads.rect_if v b) ≡ number_in v
-unfolding reads.rect_number reads.rect_if number_in
-rect_number_lem is.Accepted b = refl
-rect_number_lem (is.Refused q) b = refl
-
-insets_number_lem : (v : Verdict) (s : Insets) → reads.insets_number (reads.insets_if v s) ≡ number_in v
-unfolding reads.insets_number reads.insets_if number_in
-insets_number_lem is.Accepted s = refl
-insets_number_lem (is.Refused q) s = refl
-
-level_number_lem : (v : Verdict) (z : ℤ) → reads.level_number (reads.level_if v z) ≡ number_in v
-unfolding reads.level_number reads.level_if number_in
-level_number_lem is.Accepted z = refl
-level_number_lem (is.Refused q) z = refl
-
-flags_number_lem : (v : Verdict) (f : NodeFlags) → reads.flags_number (reads.flags_if v f) ≡ number_in v
-unfolding reads.flags_number reads.flags_if number_in
-flags_number_lem is.Accepted f = refl
-flags_number_lem (is.Refused q) f = refl
-
-node_number_lem : (v : Verdict) (o : OptionNodeId) → reads.node_number (reads.node_if v o) ≡ number_in v
-unfolding reads.node_number reads.node_if reads.link_of number_in
-node_number_lem is.Accepted node.None = refl
-node_number_lem is.Accepted (node.Some i) = refl
-node_number_lem (is.Refused q) o = refl
-
-ids_number_lem : (v : Verdict) (l : List NodeId) → reads.ids_number (reads.ids_if v l) ≡ number_in v
-unfolding reads.ids_number reads.ids_if number_in
-ids_number_lem is.Accepted l = refl
-ids_number_lem (is.Refused q) l = refl
+value_number : {A : Type 0} (v : Verdict) (a : A) → number_in (value_if v a) ≡ number_in v
+unfolding number_in
+value_number (Ok tt) a = refl
+value_number (Err q) a = refl
 
 reading_number_lem : (t : Tree) (r : Reading) → run.reading_number t r ≡ number_in (reading_verdict t r)
 unfolding run.reading_number
-reading_number_lem t call.needs_commit = bool_number_lem (set.held t) (needs_commit t)
-reading_number_lem t (call.is_alive i) = bool_number_lem (set.held t) (live t i)
-reading_number_lem t (call.local_transform i) = transform_number_lem (set.of_node t i) (local_at t i.0).local_transform
-reading_number_lem t (call.local_clip i) = clip_number_lem (set.of_node t i) (local_at t i.0).local_clip
-reading_number_lem t (call.local_bounds i) = rect_number_lem (set.of_node t i) (local_at t i.0).local_bounds
-reading_number_lem t (call.hit_slop i) = insets_number_lem (set.of_node t i) (local_at t i.0).hit_slop
-reading_number_lem t (call.z_index i) = level_number_lem (set.of_node t i) (local_at t i.0).z_index
-reading_number_lem t (call.flags i) = flags_number_lem (set.of_node t i) (local_at t i.0).flags
-reading_number_lem t (call.parent_of i) = node_number_lem (set.of_node t i) (parent_of t i.0)
-reading_number_lem t (call.children_of i room) = ids_number_lem (children_verdict t i (length room)) (children_of t i.0)
-reading_number_lem t (call.next_depth_first i) = node_number_lem (set.of_node t i) (next_of t i.0)
-reading_number_lem t (call.prev_depth_first i) = node_number_lem (set.of_node t i) (prev_of t i.0)
-reading_number_lem t (call.world_transform i) = transform_number_lem (world_verdict t i) (stored_place t i.0).transform
-reading_number_lem t (call.world_bounds i) = rect_number_lem (world_verdict t i) (stored_bounds t i.0)
-reading_number_lem t (call.world_hit_bounds i) = rect_number_lem (world_verdict t i) (stored_hit_bounds t i.0)
+reading_number_lem t call.needs_commit = value_number (set.held t) (needs_commit t)
+reading_number_lem t (call.is_alive i) = value_number (set.held t) (live t i)
+reading_number_lem t (call.local_transform i) = value_number (set.of_node t i) (local_at t i.0).local_transform
+reading_number_lem t (call.local_clip i) = value_number (set.of_node t i) (local_at t i.0).local_clip
+reading_number_lem t (call.local_bounds i) = value_number (set.of_node t i) (local_at t i.0).local_bounds
+reading_number_lem t (call.hit_slop i) = value_number (set.of_node t i) (local_at t i.0).hit_slop
+reading_number_lem t (call.z_index i) = value_number (set.of_node t i) (local_at t i.0).z_index
+reading_number_lem t (call.flags i) = value_number (set.of_node t i) (local_at t i.0).flags
+reading_number_lem t (call.parent_of i) = value_number (set.of_node t i) (parent_of t i.0)
+reading_number_lem t (call.children_of i room) = value_number (children_verdict t i (length room)) (length (children_of t i.0))
+reading_number_lem t (call.next_depth_first i) = value_number (set.of_node t i) (next_of t i.0)
+reading_number_lem t (call.prev_depth_first i) = value_number (set.of_node t i) (prev_of t i.0)
+reading_number_lem t (call.world_transform i) = value_number (world_verdict t i) (stored_place t i.0).transform
+reading_number_lem t (call.world_bounds i) = value_number (world_verdict t i) (stored_bounds t i.0)
+reading_number_lem t (call.world_hit_bounds i) = value_number (world_verdict t i) (stored_hit_bounds t i.0)
 
 -- ---- ids in lent room are read back
 
@@ -218,33 +167,28 @@ ids_front : (l : List NodeId) (room : List ℕ) → ids_of (length l) (request.i
 unfolding request.ids_in_front
 ids_front l room = ids_back l (drop (length (request.numbers_of l)) room)
 
-listing_is : (v : Verdict) (l : List NodeId) (room : List ℕ) → listing_told (listing.listed_if v l) (request.room_if v l room) ≡ answer_if v (listed l)
-unfolding listing_told listing.listed_if request.room_if
-listing_is is.Accepted l room = ap listed (ids_front l room)
-listing_is (is.Refused r) l room = refl
+pub listing_is : (v : Verdict) (l : List NodeId) (room : List ℕ) → listing_told (value_if v (length l)) (request.room_if v l room) ≡ answer_if v (listed l)
+unfolding listing_told request.room_if
+listing_is (Ok tt) l room = ap listed (ids_front l room)
+listing_is (Err r) l room = refl
 
-tap_is : (t : Tree) (v : Verdict) (b : request.Best) (room : List ℕ) → tap_told (tap.tapped_if v t b) (request.room_if v (request.path_of t b) room) ≡ answer_if v (tapped (tap_of t b))
-unfolding tap_told tap.tapped_if request.room_if
-tap_is t is.Accepted request.nobody room = refl
-tap_is t is.Accepted (request.best x) room = ap (λ (l : List NodeId). tapped (hit (id_at t x) l)) (ids_front (request.path_to t x) room)
-tap_is t (is.Refused r) b room = refl
-
-pub children_is : (v : Verdict) (l : List NodeId) (room : List ℕ) → children_told (reads.ids_if v l) (request.room_if v l room) ≡ answer_if v (listed l)
-unfolding children_told reads.ids_if request.room_if
-children_is is.Accepted l room = ap listed (ids_front l room)
-children_is (is.Refused r) l room = refl
+tap_is : (t : Tree) (v : Verdict) (b : request.Best) (room : List ℕ) → tap_told (value_if v (tap.hit_of t b)) (request.room_if v (request.path_of t b) room) ≡ answer_if v (tapped (tap_of t b))
+unfolding tap_told request.room_if
+tap_is t (Ok tt) request.nobody room = refl
+tap_is t (Ok tt) (request.best x) room = ap (λ (l : List NodeId). tapped (hit (id_at t x) l)) (ids_front (request.path_to t x) room)
+tap_is t (Err r) b room = refl
 
 -- ---- and a commit's rectangles
 
 -- of an accepted commit
 abbrev pub damage_if : Verdict → List Rect → List Rect
-damage_if is.Accepted rs = rs
-damage_if (is.Refused r) rs = []
+damage_if (Ok tt) rs = rs
+damage_if (Err r) rs = []
 
 damage_with : (v : Verdict) (t : Tree) (w : steps.Work) (room : List Float) → damage_told (commit.after_work v t w).answer (commit.room_after v w.damage room) ≡ damage_if v w.damage
 unfolding damage_told commit.after_work commit.room_after
-damage_with is.Accepted t w room = rects_front w.damage room
-damage_with (is.Refused r) t w room = refl
+damage_with (Ok tt) t w room = rects_front w.damage room
+damage_with (Err r) t w room = refl
 
 pub damage_is : (t : Tree) (room : List Float)
     → damage_told (commit.commit_call t (length room)).answer (commit.commit_room t room) ≡ damage_if (steps.commit_verdict t (length room)) (steps.commit_tree t).damage
@@ -253,11 +197,11 @@ damage_is t room = damage_with (steps.commit_verdict t (length room)) t (steps.c
 
 -- ---- a refused call leaves its room as it was
 
-pub ids_left : (r : Refusal) (v : Verdict) (l : List NodeId) (room : List ℕ) → v ≡ is.Refused r → request.room_if v l room ≡ room
+pub ids_left : (r : Refusal) (v : Verdict) (l : List NodeId) (room : List ℕ) → v ≡ Err r → request.room_if v l room ≡ room
 unfolding request.room_if
 ids_left r v l room e = rw e
 
-pub rects_left : (r : Refusal) (t : Tree) (room : List Float) → steps.commit_verdict t (length room) ≡ is.Refused r → commit.commit_room t room ≡ room
+pub rects_left : (r : Refusal) (t : Tree) (room : List Float) → steps.commit_verdict t (length room) ≡ Err r → commit.commit_room t room ≡ room
 unfolding commit.commit_room commit.room_after
 rects_left r t room e = rw e
 
@@ -272,21 +216,21 @@ answer_is t asked room (call.containing_point pt) = listing_is (request.request_
 
 -- ---- a call's outcome
 
-insert_tells : (v : Verdict) (i : NodeId) → insert_told (insert.inserted v i) ≡ outcome_if v (call.id i)
+insert_tells : (v : Verdict) (i : NodeId) → insert_told (value_if v i) ≡ outcome_if v (call.id i)
 unfolding insert_told number_in
-insert_tells is.Accepted i = refl
-insert_tells (is.Refused r) i = refl
+insert_tells (Ok tt) i = refl
+insert_tells (Err r) i = refl
 
 -- a call that tells nothing
 number_tells : (v : Verdict) → number_told (number_in v) ≡ outcome_if v call.nothing
 unfolding number_in
-number_tells is.Accepted = refl
-number_tells (is.Refused r) = refl
+number_tells (Ok tt) = refl
+number_tells (Err r) = refl
 
-commit_number : (v : Verdict) (t : Tree) (w : steps.Work) → commit.committed_number (commit.after_work v t w).answer ≡ number_in v
-unfolding commit.committed_number commit.after_work number_in
-commit_number is.Accepted t w = refl
-commit_number (is.Refused r) t w = refl
+commit_number : (v : Verdict) (t : Tree) (w : steps.Work) → number_in (commit.after_work v t w).answer ≡ number_in v
+unfolding commit.after_work number_in
+commit_number (Ok tt) t w = refl
+commit_number (Err r) t w = refl
 
 -- what is found is no refusal
 answered_number : (t : Tree) (asked : NodeFlags) (q : Request) → answer_number (answered t asked q) ≡ 0
@@ -296,8 +240,8 @@ answered_number t asked (call.containing_point pt) = refl
 
 answer_number_lem : (v : Verdict) (found : Answer) → answer_number found ≡ 0 → answer_number (answer_if v found) ≡ number_in v
 unfolding number_in
-answer_number_lem is.Accepted found e = e
-answer_number_lem (is.Refused r) found e = refl
+answer_number_lem (Ok tt) found e = e
+answer_number_lem (Err r) found e = refl
 
 request_number : (t : Tree) (asked : NodeFlags) (room : List ℕ) (q : Request) → answer_number (run.answer t asked room q) ≡ number_in (request.request_verdict t asked (length room))
 request_number t asked room q =

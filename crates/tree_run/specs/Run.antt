@@ -7,8 +7,8 @@ use Rattle.tree_state.specs.Tree.{number_in}
 use Rattle.tree_steps.specs.Setters.{transform_call, clip_call, bounds_call, slop_call, level_call, flags_call}
 use Rattle.tree_steps.specs.Structure.{remove_call, reparent_call}
 use Rattle.tree_insert.specs.Insert.{insert_call}
-use Rattle.tree_commit.specs.Commit.{commit_call, committed_number}
-use Rattle.tree_readings.specs.answers.Answers as reads
+use Rattle.tree_commit.specs.Commit.{commit_call}
+use Rattle.tree_readings.specs.Answers as reads
 use Rattle.tree_listings.specs.Listings.{intersect_call, intersect_room, containing_call, containing_room}
 use Rattle.tree_taps.specs.Taps.{tap_call, tap_room}
 use Rattle.plan.specs.Calls as call
@@ -42,21 +42,21 @@ answer t asked room (call.containing_point pt) = listing_told (containing_call t
 -- ---- the number of a reading's answer
 
 unfoldable pub reading_number : Tree → Reading → ℕ
-reading_number t call.needs_commit = reads.bool_number (reads.needs_commit_call t)
-reading_number t (call.is_alive i) = reads.bool_number (reads.is_alive_call t i)
-reading_number t (call.local_transform i) = reads.transform_number (reads.local_transform_call t i)
-reading_number t (call.local_clip i) = reads.clip_number (reads.local_clip_call t i)
-reading_number t (call.local_bounds i) = reads.rect_number (reads.local_bounds_call t i)
-reading_number t (call.hit_slop i) = reads.insets_number (reads.hit_slop_call t i)
-reading_number t (call.z_index i) = reads.level_number (reads.z_index_call t i)
-reading_number t (call.flags i) = reads.flags_number (reads.flags_call t i)
-reading_number t (call.parent_of i) = reads.node_number (reads.parent_call t i)
-reading_number t (call.children_of i room) = reads.ids_number (reads.children_call t i (length room))
-reading_number t (call.next_depth_first i) = reads.node_number (reads.next_call t i)
-reading_number t (call.prev_depth_first i) = reads.node_number (reads.prev_call t i)
-reading_number t (call.world_transform i) = reads.transform_number (reads.world_transform_call t i)
-reading_number t (call.world_bounds i) = reads.rect_number (reads.world_bounds_call t i)
-reading_number t (call.world_hit_bounds i) = reads.rect_number (reads.world_hit_bounds_call t i)
+reading_number t call.needs_commit = number_in (reads.needs_commit_call t)
+reading_number t (call.is_alive i) = number_in (reads.is_alive_call t i)
+reading_number t (call.local_transform i) = number_in (reads.local_transform_call t i)
+reading_number t (call.local_clip i) = number_in (reads.local_clip_call t i)
+reading_number t (call.local_bounds i) = number_in (reads.local_bounds_call t i)
+reading_number t (call.hit_slop i) = number_in (reads.hit_slop_call t i)
+reading_number t (call.z_index i) = number_in (reads.z_index_call t i)
+reading_number t (call.flags i) = number_in (reads.flags_call t i)
+reading_number t (call.parent_of i) = number_in (reads.parent_call t i)
+reading_number t (call.children_of i room) = number_in (reads.children_call t i (length room))
+reading_number t (call.next_depth_first i) = number_in (reads.next_call t i)
+reading_number t (call.prev_depth_first i) = number_in (reads.prev_call t i)
+reading_number t (call.world_transform i) = number_in (reads.world_transform_call t i)
+reading_number t (call.world_bounds i) = number_in (reads.world_bounds_call t i)
+reading_number t (call.world_hit_bounds i) = number_in (reads.world_hit_bounds_call t i)
 
 -- ---- a call's outcome: the number of its answer, and what it tells
 
@@ -70,6 +70,6 @@ outcome t (call.set_local_bounds i r) = number_told (number_in (bounds_call t i 
 outcome t (call.set_hit_slop i s) = number_told (number_in (slop_call t i s).answer)
 outcome t (call.set_z_index i z) = number_told (number_in (level_call t i z).answer)
 outcome t (call.set_flags i f) = number_told (number_in (flags_call t i f).answer)
-outcome t (call.commit room) = number_told (committed_number (commit_call t (length room)).answer)
+outcome t (call.commit room) = number_told (number_in (commit_call t (length room)).answer)
 outcome t (call.read r) = number_told (reading_number t r)
 outcome t (call.request q asked room) = number_told (answer_number (answer t asked room q))

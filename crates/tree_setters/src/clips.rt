@@ -1,32 +1,29 @@
-// The setter of what a node clips: tree.rs's `set_local_clip`, by value (see tree_setters).
+// The setter of what a node clips: tree.rs's `set_local_clip` (see tree_setters).
 ghost use Rattle.std.specs.Prelude.{◌≡◌};
 ghost use Rattle.tree_steps.specs.Setters as spec;
 
-use crate::steps::{mark, put_byte, stored_clip};
 use geometry_clips::clip::Clip;
 use index_types::NodeId;
-use tree_state::{After, Refusal, Tree, Verdict};
+use tree_state::{Refusal, Tree, check};
 use tree_verdicts::nodes;
 
 // The clip is put through the constructor before it is compared.
-pub fn set_local_clip(mut t: Tree, id: NodeId, clip: Clip) -> After
-    ensures { result ≡ spec.clip_call t id clip }
+#[tactic(auto, unfolding(tree_steps::specs::Setters::set_clip))]
+pub fn set_local_clip(tree: &mut Tree, id: NodeId, clip: Clip) -> Result<(), Refusal>
+    ensures answer { result ≡ (spec.clip_call tree.old id clip).answer }
+    ensures tree { tree.new ≡ (spec.clip_call tree.old id clip).tree }
 {
-    let node = nodes::of_node(t, id);
-    let v = tree_state::check(node, clip.is_finite(), Refusal::NotFinite);
-    let Verdict::Accepted = v else {
-        return After { answer: v, tree: t };
-    };
-    let x = id.0 as usize;
+    nodes::of_node(tree, id)?;
+    check(clip.is_finite(), Refusal::NotFinite)?;
+    let slot = id.0 as usize;
     let made = clip.construct();
-    let stored = stored_clip(&t.locals.kind, &t.locals.clip, x);
-    if stored.eq(made) {
-        return After { answer: v, tree: t };
+    let stored = node_tables::clip_at(tree.locals.kind[slot], &tree.locals.clip, slot);
+    if stored == made {
+        return Ok(());
     }
-    let kind = node_tables::clip_kind(made);
-    put_byte(&mut t.locals.kind, x, kind);
-    node_tables::put_clip(&mut t.locals.clip, x, made);
-    mark(&mut t.marks.marked, x);
-    mark(&mut t.marks.clip, x);
-    After { answer: v, tree: t }
+    tree.locals.kind[slot] = node_tables::clip_kind(made);
+    node_tables::put_clip(&mut tree.locals.clip, slot, made);
+    tree.marks.marked[slot] = true;
+    tree.marks.clip[slot] = true;
+    Ok(())
 }

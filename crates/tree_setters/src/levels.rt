@@ -1,34 +1,29 @@
-// The setters that call for no commit: tree.rs's `set_z_index` and `set_flags`, by value (see tree_setters).
+// The setters that call for no commit: tree.rs's `set_z_index` and `set_flags` (see tree_setters).
 ghost use Rattle.std.specs.Prelude.{◌≡◌};
 ghost use Rattle.tree_steps.specs.Setters as spec;
 
-use crate::steps::{put_byte, put_level};
 use index_types::NodeId;
-use tree_state::{After, Refusal, Tree, Verdict};
+use tree_state::{Refusal, Tree, check};
 use tree_types::NodeFlags;
 use tree_verdicts::nodes;
 
-pub fn set_z_index(mut t: Tree, id: NodeId, z: i32) -> After
-    ensures { result ≡ spec.level_call t id z }
+#[tactic(auto, unfolding(tree_steps::specs::Setters::set_level))]
+pub fn set_z_index(tree: &mut Tree, id: NodeId, z_index: i32) -> Result<(), Refusal>
+    ensures answer { result ≡ (spec.level_call tree.old id z_index).answer }
+    ensures tree { tree.new ≡ (spec.level_call tree.old id z_index).tree }
 {
-    let v = nodes::of_node(t, id);
-    let Verdict::Accepted = v else {
-        return After { answer: v, tree: t };
-    };
-    let x = id.0 as usize;
-    put_level(&mut t.locals.level, x, z);
-    After { answer: v, tree: t }
+    nodes::of_node(tree, id)?;
+    tree.locals.level[id.0 as usize] = z_index;
+    Ok(())
 }
 
-pub fn set_flags(mut t: Tree, id: NodeId, flags: NodeFlags) -> After
-    ensures { result ≡ spec.flags_call t id flags }
+#[tactic(auto, unfolding(tree_steps::specs::Setters::set_flags))]
+pub fn set_flags(tree: &mut Tree, id: NodeId, flags: NodeFlags) -> Result<(), Refusal>
+    ensures answer { result ≡ (spec.flags_call tree.old id flags).answer }
+    ensures tree { tree.new ≡ (spec.flags_call tree.old id flags).tree }
 {
-    let node = nodes::of_node(t, id);
-    let v = tree_state::check(node, flags.is_known(), Refusal::UnknownFlags);
-    let Verdict::Accepted = v else {
-        return After { answer: v, tree: t };
-    };
-    let x = id.0 as usize;
-    put_byte(&mut t.locals.flags, x, flags.0);
-    After { answer: v, tree: t }
+    nodes::of_node(tree, id)?;
+    check(flags.is_known(), Refusal::UnknownFlags)?;
+    tree.locals.flags[id.0 as usize] = flags.0;
+    Ok(())
 }

@@ -29,7 +29,7 @@ use Rattle.tree_state.specs.Tree as tree
 use Rattle.tree_state.specs.Tree.{live_slots, is_live, local_at, clip_of, marked_at, transform_changed_at, clip_changed_at, committed_at, key_at, stored_bounds, stored_hit_bounds, entry_mark, is_removed}
 use Rattle.tree_state.specs.Sound.{Live, Owns, Uncommitted, SoundTree, every_of, slots_right, values_right, marks_right, same_id, owns_right, new_right, node_right, owner_of, owned_right, entry_right, counts_right, sound_tree, removed_entries, committed_nodes}
 use Rattle.tree_sound.specs.Parts.{Sized}
-use Rattle.tree_sound.proofs.nodes.Walks.{live_by}
+use Rattle.tree_sound.proofs.Lists.{live_by}
 
 -- ---- more of the kit
 

@@ -1,3 +1,4 @@
 pub mod Whole
-pub mod Exact
+pub mod Lists
 pub mod Used
+pub mod Exact

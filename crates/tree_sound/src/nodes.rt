@@ -1,75 +1,81 @@
-// The live nodes of "Sound tree", over lent tables: a node's values, a node that is not committed yet, and the marks.
-ghost use Rattle.std.specs.Prelude.{◌≡◌, ◌≤◌, ◌<◌, length, take};
-ghost use Rattle.tree_state.specs.Sound.{every_of};
-ghost use Rattle.tree_sound.specs.nodes.Nodes.{Low, values_at, marks_at, new_at};
+// One live node of a sound tree: its values, its marks, and its entry of the index or that it has none yet.
+// A slot is a plain number, its bound in the contracts: a type of its own would be taken apart at each table, and is no plainer.
+ghost use Rattle.std.specs.Prelude.{◌≡◌, ◌<◌};
+ghost use Rattle.tree_state.specs.Sound as spec;
+ghost use Rattle.tree_state.specs.Tree.{key_at};
 
 use geometry::rect::Rect;
-use geometry_clips::constructed;
+use geometry_clips::constructed::is_constructed;
+use index_types::NodeId;
+use index_types::flat_tables::id_at;
 use node_tables::{affine_at, clip_at, insets_at, rect_at};
+use tree_state::Tree;
+use tree_types::NodeFlags;
 
-// Inner: one node's values: finite, with known flags, and a clip as constructed.
-pub(crate) fn value_right<'a>(
-    bounds: &'a [f64; 1024],
-    slop: &'a [f64; 1024],
-    transform: &'a [f64; 1536],
-    kind: &'a [u8; 256],
-    clip: &'a [f64; 2048],
-    flags: &'a [u8; 256],
-    x: usize,
-) -> bool
-    requires { x < 256 }
-    ensures { result
-        ≡ values_at bounds.now slop.now transform.now kind.now clip.now flags.now x }
+// Its values are finite, its flags known, and its clip is as constructed.
+#[tactic(auto, unfolding(tree_types::specs::Local::finite_local, tree_state::specs::Tree::local_at))]
+fn values_right(tree: &Tree, slot: usize) -> bool
+    requires { slot < 256 }
+    ensures { result ≡ spec.values_right tree.now slot }
 {
-    let b = rect_at(bounds, x);
-    let s = insets_at(slop, x);
-    let t = affine_at(transform, x);
-    let c = clip_at(kind[x], clip, x);
-    b.is_finite()
-        & s.is_finite()
-        & (t.is_finite() & c.is_finite())
-        & ((flags[x] < 8) & constructed::is_constructed(c))
+    let locals = &tree.locals;
+    let clip = clip_at(locals.kind[slot], &locals.clip, slot);
+    rect_at(&locals.bounds, slot).is_finite()
+        && insets_at(&locals.slop, slot).is_finite()
+        && affine_at(&locals.transform, slot).is_finite()
+        && clip.is_finite()
+        && NodeFlags(locals.flags[slot]).is_known()
+        && is_constructed(clip)
 }
 
-// Inner: each live node that counts as changed has a mark.
-pub(crate) fn marks_right<'a>(
-    order: &'a [u32; 256],
-    count: usize,
-    marked: &'a [bool; 256],
-    transform: &'a [bool; 256],
-    clip: &'a [bool; 256],
-) -> bool
-    requires { (count ≤ 256) × (length order.now ≡ 256) × Low order.now count }
-    ensures { result ≡ every_of (marks_at marked.now transform.now clip.now) (take count order.now) }
+// It has a mark if it counts as changed.
+fn marks_right(tree: &Tree, slot: usize) -> bool
+    requires { slot < 256 }
+    ensures { result ≡ spec.marks_right tree.now slot }
 {
-    let mut ok = true;
-    let mut i = 0;
-    while i < count {
-        let x = order[i] as usize;
-        ok = ok & (marked[x] | !(transform[x] | clip[x]));
-        i += 1;
+    let marks = &tree.marks;
+    marks.marked[slot] || !(marks.transform[slot] || marks.clip[slot])
+}
+
+// Its key is an unmarked entry's, and the entry carries its id.
+fn owns_right(tree: &Tree, slot: usize) -> bool
+    requires { slot < 256 }
+    ensures { result ≡ spec.owns_right tree.now slot (key_at tree.now slot).0 }
+{
+    let index = &tree.index;
+    let entry = tree.keys.slot[slot] as usize;
+    if entry >= 512 {
+        return false;
     }
-    ok
+    index.mark[entry] == 1
+        && index.generation[entry] == tree.keys.generation[slot]
+        && id_at(&index.payload, entry) == NodeId(slot as u32, tree.slots.generation[slot])
 }
 
-// Inner: a node that is not committed yet: empty world boxes, changed in transform and in clip.
-pub(crate) fn new_node_right<'a>(
-    bounds: &'a [f64; 1024],
-    hit_bounds: &'a [f64; 1024],
-    transform: &'a [bool; 256],
-    clip: &'a [bool; 256],
-    x: usize,
-) -> bool
-    requires { x < 256 }
-    ensures { result ≡ new_at bounds.now hit_bounds.now transform.now clip.now x }
+// No commit has seen it: its world boxes are empty, and it counts as changed in transform and in clip.
+#[tactic(auto, unfolding(geometry::specs::Rectangle::rect_eq))]
+fn new_right(tree: &Tree, slot: usize) -> bool
+    requires { slot < 256 }
+    ensures { result ≡ spec.new_right tree.now slot }
 {
-    let empty = Rect {
-        x0: 0.0,
-        y0: 0.0,
-        x1: 0.0,
-        y1: 0.0,
-    };
-    let b = rect_at(bounds, x);
-    let h = rect_at(hit_bounds, x);
-    b.eq(empty) & (h.eq(empty) & (transform[x] & clip[x]))
+    let empty = Rect::new(0.0, 0.0, 0.0, 0.0);
+    rect_at(&tree.worlds.bounds, slot) == empty
+        && rect_at(&tree.worlds.hit_bounds, slot) == empty
+        && (tree.marks.transform[slot] && tree.marks.clip[slot])
+}
+
+// Inner: the node of a live slot.
+#[tactic(auto, unfolding(tree_state::specs::Sound::node_right))]
+pub(crate) fn node_right(tree: &Tree, slot: usize) -> bool
+    requires { slot < 256 }
+    ensures { result ≡ spec.node_right tree.now slot }
+{
+    let committed = tree.keys.committed[slot];
+    values_right(tree, slot)
+        && marks_right(tree, slot)
+        && if committed {
+            owns_right(tree, slot)
+        } else {
+            new_right(tree, slot)
+        }
 }

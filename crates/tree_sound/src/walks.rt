@@ -1,139 +1,52 @@
-// The walks of the test of "Sound tree", over lent tables: every live node's values and entry, or that it is new; how many entries are removed,
-// and how many nodes committed.
-ghost use Rattle.std.specs.Prelude.{◌≡◌, false, not, ◌||◌, ◌≤◌, leb, length, get_or, take};
-ghost use Rattle.counting.specs.Times.{tally};
-ghost use Rattle.tree_state.specs.Sound.{every_of, count_of, count_below};
-ghost use Rattle.tree_sound.specs.nodes.Nodes.{Low, values_at, new_at};
-ghost use Rattle.tree_sound.specs.entries.Entries.{owns_at};
+// The walks over the nodes and the entries of a sound tree: every live node; how many entries are removed, and how many nodes committed.
+ghost use Rattle.std.specs.Prelude.{◌≡◌, ◌≤◌, true};
+ghost use Rattle.index_sound.specs.Sound.{sound_index};
+ghost use Rattle.tree_state.specs.Tree.{live_slots};
+ghost use Rattle.tree_state.specs.Sound as spec;
 
-use crate::entries::owner_right;
-use crate::nodes::{new_node_right, value_right};
-use index_types::{Key, NodeId};
+use crate::live::Live;
+use crate::nodes::node_right;
+use tree_state::Tree;
 
-// Inner: each live node has values that pass 5 and 6, and its clip is as constructed.
-pub(crate) fn values_right<'a>(
-    order: &'a [u32; 256],
-    count: usize,
-    bounds: &'a [f64; 1024],
-    slop: &'a [f64; 1024],
-    transform: &'a [f64; 1536],
-    kind: &'a [u8; 256],
-    clip: &'a [f64; 2048],
-    flags: &'a [u8; 256],
-) -> bool
-    requires { (count ≤ 256) × (length order.now ≡ 256) × Low order.now count }
-    ensures { let right =
-        values_at bounds.now slop.now transform.now kind.now clip.now flags.now
-        in
-        result ≡ every_of right (take count order.now) }
+// Inner: every live node is right.
+pub(crate) fn nodes_right(live: &Live) -> bool
+    ensures { result ≡ spec.every_of (spec.node_right live.now.tree.now) (live_slots live.now.tree.now) }
 {
-    let mut ok = true;
-    let mut i = 0;
-    while i < count {
-        let x = order[i] as usize;
-        ok = ok & value_right(bounds, slop, transform, kind, clip, flags, x);
-        i += 1;
-    }
-    ok
+    let tree = live.tree;
+    let slots = &tree.links.order[..tree.links.count];
+    slots.iter().all(|slot| node_right(tree, *slot as usize))
 }
 
-// Inner: each committed node owns its entry.
-pub(crate) fn owners_right<'a>(
-    order: &'a [u32; 256],
-    count: usize,
-    committed: &'a [bool; 256],
-    slot: &'a [u32; 256],
-    keys_generation: &'a [u32; 256],
-    slots_generation: &'a [u32; 256],
-    mark: &'a [u8; 512],
-    index_generation: &'a [u32; 512],
-    payload: &'a [u32; 1024],
-) -> bool
-    requires { (count ≤ 256) × (length order.now ≡ 256) × Low order.now count }
-    ensures { result
-        ≡ every_of
-        (λ x. not (get_or committed.now x false)
-        || owns_at mark.now index_generation.now payload.now
-        (record { 0 = get_or slot.now x 0; 1 = get_or keys_generation.now x 0 })
-        (record { 0 = x; 1 = get_or slots_generation.now x 0 }))
-        (take count order.now) }
+// How many entries are marked removed: none that is not used.
+fn count_removed(tree: &Tree) -> usize
+    requires { sound_index tree.now.index ≡ true }
+    ensures { (result ≤ 512) × (result ≡ spec.removed_entries tree.now) }
 {
-    let mut ok = true;
-    let mut i = 0;
-    while i < count {
-        let e = order[i];
-        let x = e as usize;
-        let key = Key(slot[x], keys_generation[x]);
-        let node = NodeId(e, slots_generation[x]);
-        ok = ok & (!committed[x] | owner_right(mark, index_generation, payload, key, node));
-        i += 1;
-    }
-    ok
+    tree_state::whole(tree);
+    let used = &tree.index.mark[..tree.index.used];
+    used.iter().filter(|mark| **mark >= 4).count()
 }
 
-// Inner: each live node that is not committed is new.
-pub(crate) fn new_right<'a>(
-    order: &'a [u32; 256],
-    count: usize,
-    committed: &'a [bool; 256],
-    bounds: &'a [f64; 1024],
-    hit_bounds: &'a [f64; 1024],
-    transform: &'a [bool; 256],
-    clip: &'a [bool; 256],
-) -> bool
-    requires { (count ≤ 256) × (length order.now ≡ 256) × Low order.now count }
-    ensures { result
-        ≡ every_of
-        (λ x. get_or committed.now x false
-        || new_at bounds.now hit_bounds.now transform.now clip.now x)
-        (take count order.now) }
+// How many live nodes are committed.
+fn count_committed(live: &Live) -> usize
+    ensures { (result ≤ 256) × (result ≡ spec.committed_nodes live.now.tree.now) }
 {
-    let mut ok = true;
-    let mut i = 0;
-    while i < count {
-        let x = order[i] as usize;
-        ok = ok & (committed[x] | new_node_right(bounds, hit_bounds, transform, clip, x));
-        i += 1;
-    }
-    ok
+    let tree = live.tree;
+    let slots = &tree.links.order[..tree.links.count];
+    slots
+        .iter()
+        .filter(|slot| tree.keys.committed[**slot as usize])
+        .count()
 }
 
-// 1 for true.
-fn unit(b: bool) -> usize
-    ensures { (result ≡ tally b) × (result ≤ 1) }
+// Inner: no more rectangles are pending than entries removed, and these with the committed nodes are at most 256.
+#[tactic(auto, unfolding(tree_state::specs::Sound::counts_right))]
+pub(crate) fn counts_right(live: &Live) -> bool
+    requires { sound_index live.now.tree.now.index ≡ true }
+    ensures { result ≡ spec.counts_right live.now.tree.now }
 {
-    if b { 1 } else { 0 }
-}
-
-// Inner: how many of the first `used` entries are marked removed.
-pub(crate) fn count_removed(mark: &[u8; 512], used: usize) -> usize
-    requires { used ≤ 512 }
-    ensures { (result ≤ 512) × (result ≡ count_below used (λ k. leb 4 (get_or mark.now k 0))) }
-{
-    let mut sum = 0;
-    let mut k = 0;
-    while k < used {
-        sum = sum + unit(mark[k] >= 4);
-        k += 1;
-    }
-    sum
-}
-
-// Inner: how many live nodes are committed.
-pub(crate) fn count_committed<'a>(
-    order: &'a [u32; 256],
-    count: usize,
-    committed: &'a [bool; 256],
-) -> usize
-    requires { (count ≤ 256) × (length order.now ≡ 256) × Low order.now count }
-    ensures { (result ≤ 256) × (result ≡ count_of (λ x. get_or committed.now x false) (take count order.now)) }
-{
-    let mut sum = 0;
-    let mut i = 0;
-    while i < count {
-        let x = order[i] as usize;
-        sum = sum + unit(committed[x]);
-        i += 1;
-    }
-    sum
+    let tree = live.tree;
+    let removed = count_removed(tree);
+    let committed = count_committed(live);
+    tree.pending.count <= removed && removed + committed <= 256
 }

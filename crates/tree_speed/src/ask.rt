@@ -1,7 +1,10 @@
 // Requests and a reading: the tree stays.
-use crate::{answers, work};
+use crate::{change, work};
 use index_types::NodeId;
-use tree_state::Tree;
+use std::time::CpuClock;
+use text_lines::report::phase_of_calls;
+use tree_state::{Refusal, Tree};
+use tree_taps::Hit;
 use tree_types::{NodeFlags, QueryFilter};
 
 fn filter() -> QueryFilter {
@@ -10,60 +13,57 @@ fn filter() -> QueryFilter {
     }
 }
 
-pub(crate) fn alives(t: Tree, last: u32, calls: u32) -> u64 {
-    let mut s = 0u64;
-    let mut k = calls;
-    while k > 0 {
-        s = answers::truth(s, tree_readings::is_alive(t, NodeId(k & last, 1)));
-        k -= 1;
+// Adds 1 for a live node.
+fn alive(tree: &Tree, slot: u32, sum: u64) -> u64 {
+    let answer = tree_readings::is_alive(tree, NodeId(slot, 1));
+    sum.wrapping_add(u64::from(answer.unwrap_or(false)))
+}
+
+// Adds the slot of the node that is hit, 1, and the length of its path.
+fn tap(tree: &Tree, k: u32, room: &mut [u32], sum: u64) -> u64 {
+    match tree_taps::hit_test_point(tree, work::point(k), filter(), room) {
+        Ok(
+            Some(
+                Hit {
+                    node: NodeId(slot, _),
+                    depth,
+                },
+            ),
+        ) => sum
+            .wrapping_add(u64::from(slot))
+            .wrapping_add(1)
+            .wrapping_add(depth as u64),
+        _ => sum,
     }
-    s
 }
 
-fn each_tap(t: Tree, calls: u32, room: &mut [u32]) -> u64 {
-    let mut s = 0u64;
-    let mut k = calls;
-    while k > 0 {
-        let answer = tree_taps::hit_test_point(t, work::point(k), filter(), room);
-        s = answers::tapped(s, answer);
-        k -= 1;
-    }
-    s
+// Adds the number of nodes.
+fn listed(answer: Result<usize, Refusal>, sum: u64) -> u64 {
+    sum.wrapping_add(answer.unwrap_or(0) as u64)
 }
 
-pub(crate) fn taps(t: Tree, calls: u32) -> u64 {
-    let mut room = [0u32; 512];
-    each_tap(t, calls, &mut room)
-}
-
-fn each_point(t: Tree, calls: u32, room: &mut [u32]) -> u64 {
-    let mut s = 0u64;
-    let mut k = calls;
-    while k > 0 {
-        let answer = tree_listings::containing_point(t, work::point(k), filter(), room);
-        s = answers::listed(s, answer);
-        k -= 1;
-    }
-    s
-}
-
-pub(crate) fn points(t: Tree, calls: u32) -> u64 {
-    let mut room = [0u32; 512];
-    each_point(t, calls, &mut room)
-}
-
-fn each_rect(t: Tree, calls: u32, room: &mut [u32]) -> u64 {
-    let mut s = 0u64;
-    let mut k = calls;
-    while k > 0 {
-        let answer = tree_listings::intersect_rect(t, work::rect(k), filter(), room);
-        s = answers::listed(s, answer);
-        k -= 1;
-    }
-    s
-}
-
-pub(crate) fn rects(t: Tree, calls: u32) -> u64 {
-    let mut room = [0u32; 512];
-    each_rect(t, calls, &mut room)
+// `last` is the last of n nodes, which are a power of two.
+pub(crate) fn phases<R: CpuClock + Print + Eprint>(rt: &R, n: u32, last: u32, calls: u32) {
+    let tree = change::committed(n);
+    let mut room = [0; 512];
+    phase_of_calls(
+        rt,
+        "is_alive",
+        n,
+        calls,
+        |sum, k| alive(&tree, k & last, sum),
+    );
+    phase_of_calls(rt, "tap", n, calls, |sum, k| tap(&tree, k, &mut room, sum));
+    phase_of_calls(rt, "point", n, calls, |sum, k| {
+        listed(
+            tree_listings::containing_point(&tree, work::point(k), filter(), &mut room),
+            sum,
+        )
+    });
+    phase_of_calls(rt, "rect", n, calls, |sum, k| {
+        listed(
+            tree_listings::intersect_rect(&tree, work::rect(k), filter(), &mut room),
+            sum,
+        )
+    });
 }

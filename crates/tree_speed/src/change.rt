@@ -1,150 +1,126 @@
-// Calls that change the tree.
-use crate::{answers, work};
+// Calls that change the tree. What the answers add to a sum wraps; a refusal adds nothing, so a sum tells it.
+use crate::work;
 use index_types::NodeId;
-use tree_state::Tree;
+use std::time::CpuClock;
+use text_lines::report::phase_of_calls;
+use tree_state::{Refusal, Tree};
 
-#[derive(Clone, Copy)]
-pub(crate) struct Load {
-    pub(crate) tree: Tree,
-    pub(crate) sum: u64,
+// Adds 1 where a call is done.
+fn done(sum: u64, answer: Result<(), Refusal>) -> u64 {
+    sum.wrapping_add(u64::from(answer.is_ok()))
 }
 
-// The first n nodes, inserted.
-fn filled(n: u32, sum: u64) -> Load {
-    let mut t = tree_state::fresh();
-    let mut s = sum;
-    let mut i = 0u32;
-    while i < n {
-        let parent = work::parent(i);
-        let local = work::local(i);
-        let after = tree_insert::insert(t, parent, local);
-        let answer = after.answer;
-        s = answers::inserted(s, answer);
-        t = after.tree;
-        i += 1;
+// Adds the number of damage rectangles.
+fn damage(sum: u64, answer: Result<usize, Refusal>) -> u64 {
+    sum.wrapping_add(answer.unwrap_or(0) as u64)
+}
+
+// Inserts a node, and adds its slot and 1.
+fn insert(tree: &mut Tree, i: u32, sum: u64) -> u64 {
+    match tree_insert::insert(tree, work::parent(i), work::local(i)) {
+        Ok(NodeId(slot, _)) => sum.wrapping_add(u64::from(slot)).wrapping_add(1),
+        Err(_) => sum,
     }
-    Load { tree: t, sum: s }
+}
+
+// Inserts the first n nodes.
+fn fill(tree: &mut Tree, n: u32, start: u64) -> u64 {
+    let mut sum = start;
+    for i in 0..n {
+        sum = insert(tree, i, sum);
+    }
+    sum
 }
 
 pub(crate) fn committed(n: u32) -> Tree {
-    let mut room = [0.0; 2048];
-    let load = filled(n, 0);
-    let t = load.tree;
-    let after = tree_commit::commit(t, &mut room);
-    after.tree
+    let mut tree = tree_state::fresh();
+    fill(&mut tree, n, 0);
+    let _ = tree_commit::commit(&mut tree, &mut [0.0; 2048]);
+    tree
 }
 
-pub(crate) fn inserts(n: u32, rounds: u32) -> u64 {
-    let mut s = 0u64;
-    let mut k = rounds;
-    while k > 0 {
-        let load = filled(n, s);
-        s = load.sum;
-        k -= 1;
-    }
-    s
+// All n of them are one call here.
+pub(crate) fn inserts<R: CpuClock + Print + Eprint>(rt: &R, n: u32, rounds: u32) {
+    phase_of_calls(rt, "inserts", n, rounds, |sum, _| {
+        fill(&mut tree_state::fresh(), n, sum)
+    });
 }
 
 // The last node gets other bounds.
-pub(crate) fn setters(start: Tree, last: u32, calls: u32) -> u64 {
-    let mut t = start;
-    let mut s = 0u64;
-    let mut k = calls;
-    while k > 0 {
-        let after = tree_setters::set_local_bounds(t, NodeId(last, 1), work::bounds(k));
-        let answer = after.answer;
-        s = answers::done(s, answer);
-        t = after.tree;
-        k -= 1;
-    }
-    s
-}
-
-// The same, each with its commit.
-fn each_leaf(start: Tree, last: u32, calls: u32, room: &mut [f64]) -> u64 {
-    let mut t = start;
-    let mut s = 0u64;
-    let mut k = calls;
-    while k > 0 {
-        let after = tree_setters::set_local_bounds(t, NodeId(last, 1), work::bounds(k));
-        let marked = after.tree;
-        let end = tree_commit::commit(marked, room);
-        let answer = end.answer;
-        s = answers::damage(s, answer);
-        t = end.tree;
-        k -= 1;
-    }
-    s
-}
-
-pub(crate) fn leaves(start: Tree, last: u32, calls: u32) -> u64 {
-    let mut room = [0.0; 2048];
-    each_leaf(start, last, calls, &mut room)
+fn set_leaf(tree: &mut Tree, last: u32, k: u32) -> Result<(), Refusal> {
+    tree_setters::set_local_bounds(tree, NodeId(last, 1), work::bounds(k))
 }
 
 // The root is moved.
-pub(crate) fn moves(start: Tree, calls: u32) -> u64 {
-    let mut t = start;
-    let mut s = 0u64;
-    let mut k = calls;
-    while k > 0 {
-        let after = tree_setters::set_local_transform(t, NodeId(0, 1), work::moved(k % 2, 0));
-        let answer = after.answer;
-        s = answers::done(s, answer);
-        t = after.tree;
-        k -= 1;
-    }
-    s
+fn move_root(tree: &mut Tree, k: u32) -> Result<(), Refusal> {
+    tree_setters::set_local_transform(tree, NodeId(0, 1), work::moved(k % 2, 0))
+}
+
+// The last node, of this generation, is removed, inserted again and committed.
+fn swap(tree: &mut Tree, last: u32, generation: u32, room: &mut [f64], sum: u64) -> u64 {
+    let _ = tree_remove::remove(tree, NodeId(last, generation));
+    let sum = insert(tree, last, sum);
+    damage(sum, tree_commit::commit(tree, room))
+}
+
+fn setters<R: CpuClock + Print + Eprint>(rt: &R, start: &Tree, n: u32, last: u32, calls: u32) {
+    let mut tree = *start;
+    phase_of_calls(
+        rt,
+        "setter",
+        n,
+        calls,
+        |sum, k| done(sum, set_leaf(&mut tree, last, k)),
+    );
+}
+
+// The same, each with its commit.
+fn leaves<R: CpuClock + Print + Eprint>(rt: &R, start: &Tree, n: u32, last: u32, calls: u32) {
+    let mut tree = *start;
+    let mut room = [0.0; 2048];
+    phase_of_calls(rt, "setter_commit", n, calls, |sum, k| {
+        let _ = set_leaf(&mut tree, last, k);
+        damage(sum, tree_commit::commit(&mut tree, &mut room))
+    });
+}
+
+fn moves<R: CpuClock + Print + Eprint>(rt: &R, start: &Tree, n: u32, calls: u32) {
+    let mut tree = *start;
+    phase_of_calls(
+        rt,
+        "root",
+        n,
+        calls,
+        |sum, k| done(sum, move_root(&mut tree, k)),
+    );
 }
 
 // The same, each with its commit, which reworks every node.
-fn each_whole(start: Tree, calls: u32, room: &mut [f64]) -> u64 {
-    let mut t = start;
-    let mut s = 0u64;
-    let mut k = calls;
-    while k > 0 {
-        let after = tree_setters::set_local_transform(t, NodeId(0, 1), work::moved(k % 2, 0));
-        let marked = after.tree;
-        let end = tree_commit::commit(marked, room);
-        let answer = end.answer;
-        s = answers::damage(s, answer);
-        t = end.tree;
-        k -= 1;
-    }
-    s
-}
-
-pub(crate) fn wholes(start: Tree, calls: u32) -> u64 {
+fn wholes<R: CpuClock + Print + Eprint>(rt: &R, start: &Tree, n: u32, calls: u32) {
+    let mut tree = *start;
     let mut room = [0.0; 2048];
-    each_whole(start, calls, &mut room)
+    phase_of_calls(rt, "root_commit", n, calls, |sum, k| {
+        let _ = move_root(&mut tree, k);
+        damage(sum, tree_commit::commit(&mut tree, &mut room))
+    });
 }
 
-// The last node is removed, inserted again and committed.
-fn each_swap(start: Tree, last: u32, calls: u32, room: &mut [f64]) -> u64 {
-    let mut t = start;
-    let mut s = 0u64;
-    let mut k = calls;
-    let mut g = 1u32;
-    while k > 0 {
-        let less = tree_remove::remove(t, NodeId(last, g));
-        let rest = less.tree;
-        let parent = work::parent(last);
-        let local = work::local(last);
-        let more = tree_insert::insert(rest, parent, local);
-        let new = more.answer;
-        s = answers::inserted(s, new);
-        let all = more.tree;
-        let end = tree_commit::commit(all, room);
-        let answer = end.answer;
-        s = answers::damage(s, answer);
-        t = end.tree;
-        k -= 1;
-        g = std::num::wrapping_add_u32(g, 1);
-    }
-    s
-}
-
-pub(crate) fn swaps(start: Tree, last: u32, calls: u32) -> u64 {
+fn swaps<R: CpuClock + Print + Eprint>(rt: &R, start: &Tree, n: u32, last: u32, calls: u32) {
+    let mut tree = *start;
     let mut room = [0.0; 2048];
-    each_swap(start, last, calls, &mut room)
+    let mut generation = 0u32;
+    phase_of_calls(rt, "remove_insert_commit", n, calls, |sum, _| {
+        generation = generation.wrapping_add(1);
+        swap(&mut tree, last, generation, &mut room, sum)
+    });
+}
+
+// `last` is the last of n nodes.
+pub(crate) fn phases<R: CpuClock + Print + Eprint>(rt: &R, n: u32, last: u32, calls: u32) {
+    let start = committed(n);
+    setters(rt, &start, n, last, calls);
+    leaves(rt, &start, n, last, calls);
+    moves(rt, &start, n, calls);
+    wholes(rt, &start, n, calls);
+    swaps(rt, &start, n, last, calls);
 }

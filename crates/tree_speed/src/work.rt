@@ -5,18 +5,15 @@ use geometry::point::Point;
 use geometry::rect::Rect;
 use geometry_clips::clip::Clip;
 use index_types::NodeId;
-use tree_types::{LocalNode, NodeFlags, OptionNodeId};
+use tree_types::{LocalNode, NodeFlags};
 
-pub(crate) fn parent(i: u32) -> OptionNodeId {
-    if i == 0 {
-        return OptionNodeId::None;
-    }
-    OptionNodeId::Some(NodeId((i - 1) / 8, 1))
+pub(crate) fn parent(i: u32) -> Option<NodeId> {
+    Some(NodeId(i.checked_sub(1)? / 8, 1))
 }
 
 // A shift by a whole number of units.
 pub(crate) fn bounds(k: u32) -> Rect {
-    let shift = (k % 2) as f64;
+    let shift = f64::from(k % 2);
     Rect {
         x0: shift,
         y0: 0.0,
@@ -31,8 +28,8 @@ pub(crate) fn moved(x: u32, y: u32) -> Affine {
         b: 0.0,
         c: 0.0,
         d: 1.0,
-        e: x as f64,
-        f: y as f64,
+        e: f64::from(x),
+        f: f64::from(y),
     }
 }
 
@@ -80,8 +77,8 @@ pub(crate) fn local(i: u32) -> LocalNode {
 
 pub(crate) fn point(k: u32) -> Point {
     Point {
-        x: (k % 17 * 8) as f64,
-        y: (k % 13 * 8) as f64,
+        x: f64::from(k % 17 * 8),
+        y: f64::from(k % 13 * 8),
     }
 }
 

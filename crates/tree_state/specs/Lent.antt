@@ -2,8 +2,8 @@
 -- which the contract speaks of. On a tree's own tables this is that tree.
 use Rattle.std.specs.Prelude.{ℕ, Bool, List, ℤ, Float}
 use Rattle.link_table.specs.declared.Links.{Links}
-use Rattle.index_state.specs.declared.FlatVec.{FlatVec}
-use Rattle.index_state.specs.declared.Index.{Index}
+use Rattle.index_types.specs.declared.FlatVec.{FlatVec}
+use Rattle.index_types.specs.declared.Index.{Index}
 use Rattle.tree_state.specs.declared.Slots.{Slots}
 use Rattle.tree_state.specs.declared.Locals.{Locals}
 use Rattle.tree_state.specs.declared.Worlds.{Worlds}

@@ -2,3 +2,4 @@ pub mod Locals
 pub mod Tree
 pub mod Sound
 pub mod Lent
+pub mod Whole

@@ -1,5 +1,5 @@
 -- The tree's record: what a slot's node is, read off the tables, and what calls for a commit.
-use Rattle.std.specs.Prelude.{ℕ, zero, suc, Bool, true, false, ◌&&◌, ◌||◌, List, [], ◌∷◌, eqb, ltb, leb, get_or, take, replicate, pos}
+use Rattle.std.specs.Prelude.{ℕ, zero, suc, Bool, true, false, ◌&&◌, ◌||◌, List, [], ◌∷◌, eqb, ltb, leb, get_or, take, replicate, pos, Ok, Err, Result}
 use Rattle.numbers.specs.Rounded as float
 use Rattle.geometry.specs.declared.rect.Rect.{Rect}
 use Rattle.geometry_clips.specs.declared.clip.Clip.{Clip}
@@ -13,8 +13,6 @@ use Rattle.index_state.specs.Index.{fresh_index}
 use Rattle.tree_state.specs.declared.Tree.{Tree}
 use Rattle.tree_state.specs.declared.Refusal.{Refusal}
 use Rattle.tree_state.specs.declared.Refusal.TheVariants as no
-use Rattle.tree_state.specs.declared.Verdict.{Verdict}
-use Rattle.tree_state.specs.declared.Verdict.TheVariants as is
 use Rattle.tree_state.specs.Locals.{local_in}
 
 -- ---- refusals
@@ -31,19 +29,33 @@ number_of no.NeedsCommit = 7
 number_of no.ShortRoom = 8
 number_of no.Full = 9
 
+-- accepted, or refused and why
+abbrev pub Verdict : Type 0
+Verdict = Result Unit Refusal
+
+-- what a call that changes the tree answers, and the tree after it
+pub record After (A : Type 0) : Type 0 where
+  pub answer : Result A Refusal
+  pub tree : Tree
+
+-- the value of an accepted call, or the refusal
+abbrev pub value_if : {A : Type 0} → Verdict → A → Result A Refusal
+value_if (Ok tt) a = Ok a
+value_if (Err r) a = Err r
+
 -- 0 where the call is accepted
-unfoldable pub number_in : Verdict → ℕ
-number_in is.Accepted = 0
-number_in (is.Refused r) = number_of r
+unfoldable pub number_in : {A : Type 0} → Result A Refusal → ℕ
+number_in (Ok a) = 0
+number_in (Err r) = number_of r
 
 -- "The lowest number that applies is given": conditions are checked in the order of their numbers
-unfoldable pub checked_next : Bool → Refusal → Verdict
-checked_next true r = is.Accepted
-checked_next false r = is.Refused r
+abbrev pub checked_next : Bool → Refusal → Verdict
+checked_next true r = Ok tt
+checked_next false r = Err r
 
-unfoldable pub checked : Verdict → Bool → Refusal → Verdict
-checked is.Accepted holds r = checked_next holds r
-checked (is.Refused q) holds r = is.Refused q
+abbrev pub checked : Verdict → Bool → Refusal → Verdict
+checked (Ok tt) holds r = checked_next holds r
+checked (Err q) holds r = Err q
 
 -- ---- fresh
 

@@ -4,8 +4,9 @@
 
 ghost use Rattle.std.specs.Prelude.{◌≡◌};
 ghost use Rattle.tree_state.specs.Tree as spec;
+ghost use Rattle.tree_state.specs.Whole.{Whole};
 
-use index_state::Index;
+use index_types::Index;
 use link_table::Links;
 
 // Generations of the used slots, and the free list, the last freed at its end.
@@ -88,19 +89,6 @@ pub enum Refusal {
     Full,
 }
 
-#[derive(Clone, Copy)]
-pub enum Verdict {
-    Accepted,
-    Refused(Refusal),
-}
-
-// What a call that changes the tree answers, and the tree after it.
-#[derive(Clone, Copy)]
-pub struct After {
-    pub answer: Verdict,
-    pub tree: Tree,
-}
-
 // An empty tree.
 pub fn fresh() -> Tree
     ensures { result ≡ spec.fresh_tree }
@@ -159,21 +147,48 @@ pub fn fresh() -> Tree
     }
 }
 
-// Refused with `r` where the condition fails and nothing has been refused before.
-pub fn check(v: Verdict, holds: bool, r: Refusal) -> Verdict
-    ensures { result ≡ spec.checked v holds r }
+// One condition of a call: refused with `refusal` where it does not hold.
+pub fn check(holds: bool, refusal: Refusal) -> Result<(), Refusal>
+    ensures { result ≡ spec.checked_next holds refusal }
 {
-    match v {
-        Verdict::Accepted => check_next(holds, r),
-        Verdict::Refused(q) => Verdict::Refused(q),
-    }
+    if holds { Ok(()) } else { Err(refusal) }
 }
 
-fn check_next(holds: bool, r: Refusal) -> Verdict
-    ensures { result ≡ spec.checked_next holds r }
+// Inner: does nothing: the lengths of a tree's tables, as its types have them.
+pub fn whole(tree: &Tree)
+    ensures { Whole tree.now }
 {
-    if holds {
-        return Verdict::Accepted;
-    }
-    Verdict::Refused(r)
+    prove!(tree.slots.generation[..].len() == 256);
+    prove!(tree.slots.free[..].len() == 256);
+    prove!(tree.links.order[..].len() == 256);
+    prove!(tree.links.depth[..].len() == 256);
+    prove!(tree.locals.bounds[..].len() == 1024);
+    prove!(tree.locals.slop[..].len() == 1024);
+    prove!(tree.locals.transform[..].len() == 1536);
+    prove!(tree.locals.kind[..].len() == 256);
+    prove!(tree.locals.clip[..].len() == 2048);
+    prove!(tree.locals.level[..].len() == 256);
+    prove!(tree.locals.flags[..].len() == 256);
+    prove!(tree.worlds.transform[..].len() == 1536);
+    prove!(tree.worlds.clipped[..].len() == 256);
+    prove!(tree.worlds.clip[..].len() == 1024);
+    prove!(tree.worlds.bounds[..].len() == 1024);
+    prove!(tree.worlds.hit_bounds[..].len() == 1024);
+    prove!(tree.marks.marked[..].len() == 256);
+    prove!(tree.marks.transform[..].len() == 256);
+    prove!(tree.marks.clip[..].len() == 256);
+    prove!(tree.keys.committed[..].len() == 256);
+    prove!(tree.keys.slot[..].len() == 256);
+    prove!(tree.keys.generation[..].len() == 256);
+    prove!(tree.pending.rects[..].len() == 1024);
+    prove!(tree.index.generation[..].len() == 512);
+    prove!(tree.index.mark[..].len() == 512);
+    prove!(tree.index.payload[..].len() == 1024);
+    prove!(tree.index.aabb[..].len() == 2048);
+    prove!(tree.index.kept[..].len() == 512);
+    prove!(tree.index.prev[..].len() == 2048);
+    prove!(tree.index.free[..].len() == 512);
+    prove!(tree.index.dirty[..].len() == 512);
+    prove!(tree.index.backend.present[..].len() == 512);
+    prove!(tree.index.backend.boxes[..].len() == 2048);
 }

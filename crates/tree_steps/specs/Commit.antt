@@ -9,15 +9,14 @@ use Rattle.tree_worlds.specs.declared.Placed.{Placed}
 use Rattle.tree_worlds.specs.World.{at_root, placed, world_box, hit_box}
 use Rattle.link_forest.specs.Table.{less_deep}
 use Rattle.link_table.specs.Links.{end_of}
-use Rattle.index_state.specs.declared.Index.{Index}
+use Rattle.index_types.specs.declared.Index.{Index}
 use Rattle.index_state.specs.Index as index
 use Rattle.tree_state.specs.declared.Worlds.{Worlds}
 use Rattle.tree_state.specs.declared.Marks.{Marks}
 use Rattle.tree_state.specs.declared.Keys.{Keys}
 use Rattle.tree_state.specs.declared.Tree.{Tree}
 use Rattle.tree_state.specs.declared.Refusal.TheVariants as no
-use Rattle.tree_state.specs.declared.Verdict.{Verdict}
-use Rattle.tree_state.specs.Tree.{position_of, id_at, clip_of, marked_at, transform_changed_at, clip_changed_at, committed_at, key_at, stored_place, stored_bounds, stored_hit_bounds, any_of, needs_commit, checked}
+use Rattle.tree_state.specs.Tree.{position_of, id_at, clip_of, marked_at, transform_changed_at, clip_changed_at, committed_at, key_at, stored_place, stored_bounds, stored_hit_bounds, any_of, needs_commit, checked, Verdict}
 use Rattle.tree_steps.specs.Setters.{held}
 use Rattle.tree_steps.specs.SlotOrder.{slots_below}
 

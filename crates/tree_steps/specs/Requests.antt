@@ -1,5 +1,5 @@
 -- Taps and listings on the tree's record: over the stored world records and the index, as the Rust has them.
-use Rattle.std.specs.Prelude.{ℕ, Bool, true, not, ◌&&◌, ◌||◌, cond, List, [], ◌∷◌, reverse, map, eqb, ltb, get_or}
+use Rattle.std.specs.Prelude.{ℕ, Bool, true, not, ◌&&◌, ◌||◌, cond, List, [], ◌∷◌, reverse, map, eqb, ltb, get_or, Ok, Err}
 use Rattle.std.specs.Int.Signed.{lt_z, le_z}
 use Rattle.geometry.specs.declared.point.Point.{Point}
 use Rattle.geometry.specs.declared.rect.Rect.{Rect}
@@ -16,9 +16,7 @@ use Rattle.tree_types.specs.Local.{has_all, known, rect_to_aabb}
 use Rattle.index_state.specs.Index.{rect_slots, point_slots}
 use Rattle.tree_state.specs.declared.Tree.{Tree}
 use Rattle.tree_state.specs.declared.Refusal.TheVariants as no
-use Rattle.tree_state.specs.declared.Verdict.{Verdict}
-use Rattle.tree_state.specs.declared.Verdict.TheVariants as is
-use Rattle.tree_state.specs.Tree.{position_of, generation_at, id_at, local_at, clip_of, stored_place, stored_bounds, needs_commit, checked}
+use Rattle.tree_state.specs.Tree.{position_of, generation_at, id_at, local_at, clip_of, stored_place, stored_bounds, needs_commit, checked, Verdict}
 use Rattle.tree_steps.specs.Setters.{held}
 use Rattle.tree_steps.specs.Commit.{ancestors}
 
@@ -36,8 +34,8 @@ request_verdict t asked len = room_verdict (asked_verdict t asked) len
 
 -- ids in front of the room, of an accepted call; a refused one leaves the room as it was
 unfoldable pub room_if : Verdict → List NodeId → List ℕ → List ℕ
-room_if is.Accepted l room = ids_in_front l room
-room_if (is.Refused r) l room = room
+room_if (Ok tt) l room = ids_in_front l room
+room_if (Err r) l room = room
 
 unfoldable pub keep_of : (ℕ → Bool) → List ℕ → List ℕ
 keep_of p [] = []

@@ -1,5 +1,5 @@
 -- The setters on the tree's record: the refusal that applies, in the order of the numbers, and what an accepted call leaves.
-use Rattle.std.specs.Prelude.{ℕ, Bool, true, false, set, ℤ}
+use Rattle.std.specs.Prelude.{ℕ, Bool, true, false, set, ℤ, Ok, Err}
 use Rattle.geometry.specs.declared.rect.Rect.{Rect}
 use Rattle.geometry.specs.declared.insets.Insets.{Insets}
 use Rattle.geometry.specs.Rectangle.{rect_eq, insets_eq, finite_rect, finite_insets}
@@ -14,19 +14,16 @@ use Rattle.node_tables.specs.Tables.{rect_at, put_rect, insets_at, put_insets, a
 use Rattle.tree_state.specs.declared.Locals.{Locals}
 use Rattle.tree_state.specs.declared.Marks.{Marks}
 use Rattle.tree_state.specs.declared.Tree.{Tree}
-use Rattle.tree_state.specs.declared.After.{After}
 use Rattle.tree_state.specs.declared.Refusal.TheVariants as no
-use Rattle.tree_state.specs.declared.Verdict.{Verdict}
-use Rattle.tree_state.specs.declared.Verdict.TheVariants as is
 use Rattle.tree_state.specs.Locals as locals
-use Rattle.tree_state.specs.Tree.{live, clip_of, checked}
+use Rattle.tree_state.specs.Tree.{live, clip_of, checked, Verdict, After}
 use Rattle.tree_state.specs.Sound.{sound_tree}
 
 -- ---- refusals
 
 -- 1
 abbrev pub held : Tree → Verdict
-held t = checked is.Accepted (sound_tree t) no.Unsound
+held t = checked (Ok tt) (sound_tree t) no.Unsound
 
 -- 1, 2
 abbrev pub of_node : Tree → NodeId → Verdict
@@ -38,11 +35,11 @@ of_value t i finite = checked (of_node t i) finite no.NotFinite
 
 -- an accepted call's tree, or the tree as it was given
 abbrev pub tree_if : Verdict → Tree → Tree → Tree
-tree_if is.Accepted done t = done
-tree_if (is.Refused r) done t = t
+tree_if (Ok tt) done t = done
+tree_if (Err r) done t = t
 
 -- what such a call answers, and the tree after it
-abbrev pub after : Verdict → Tree → Tree → After
+abbrev pub after : Verdict → Tree → Tree → After Unit
 after v done t = record { answer = v; tree = tree_if v done t }
 
 -- ---- local records and marks
@@ -127,20 +124,20 @@ flags_verdict t i f = checked (of_node t i) (known f) no.UnknownFlags
 
 -- ---- the calls: what each answers, and the tree after it
 
-abbrev pub transform_call : Tree → NodeId → Affine → After
+abbrev pub transform_call : Tree → NodeId → Affine → After Unit
 transform_call t i a = after (transform_verdict t i a) (set_transform t i.0 a) t
 
-abbrev pub clip_call : Tree → NodeId → Clip → After
+abbrev pub clip_call : Tree → NodeId → Clip → After Unit
 clip_call t i c = after (clip_verdict t i c) (set_clip t i.0 c) t
 
-abbrev pub bounds_call : Tree → NodeId → Rect → After
+abbrev pub bounds_call : Tree → NodeId → Rect → After Unit
 bounds_call t i r = after (bounds_verdict t i r) (set_bounds t i.0 r) t
 
-abbrev pub slop_call : Tree → NodeId → Insets → After
+abbrev pub slop_call : Tree → NodeId → Insets → After Unit
 slop_call t i s = after (slop_verdict t i s) (set_slop t i.0 s) t
 
-abbrev pub level_call : Tree → NodeId → ℤ → After
+abbrev pub level_call : Tree → NodeId → ℤ → After Unit
 level_call t i z = after (of_node t i) (set_level t i.0 z) t
 
-abbrev pub flags_call : Tree → NodeId → NodeFlags → After
+abbrev pub flags_call : Tree → NodeId → NodeFlags → After Unit
 flags_call t i f = after (flags_verdict t i f) (set_flags t i.0 f) t

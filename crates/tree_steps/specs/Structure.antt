@@ -1,17 +1,15 @@
 -- Insert, remove and reparent on the tree's record.
-use Rattle.std.specs.Prelude.{ℕ, ◌+◌, ◌-◌, Bool, true, false, not, ◌&&◌, cond, List, [], ◌∷◌, eqb, ltb, leb, get_or, set}
+use Rattle.std.specs.Prelude.{ℕ, ◌+◌, ◌-◌, Bool, true, false, not, ◌&&◌, cond, List, [], ◌∷◌, eqb, ltb, leb, get_or, set, None, Some, Option}
 use Rattle.geometry.specs.declared.rect.Rect.{Rect}
 use Rattle.geometry.specs.Rectangle.{has_area}
 use Rattle.index_types.specs.declared.NodeId.{NodeId}
 use Rattle.tree_types.specs.declared.LocalNode.{LocalNode}
-use Rattle.tree_types.specs.declared.OptionNodeId.{OptionNodeId}
-use Rattle.tree_types.specs.declared.OptionNodeId.TheVariants as node
 use Rattle.tree_types.specs.Local.{finite_local, known, stored, empty_rect}
 use Rattle.node_tables.specs.Tables.{put_rect, put_insets, put_affine, kind_of, put_clip}
 use Rattle.link_forest.specs.Table.{post_of}
 use Rattle.link_table.specs.declared.Links.{Links}
 use Rattle.link_table.specs.Links.{end_of, between, add_root, add_last, cut_tree, move_last, move_root}
-use Rattle.index_state.specs.declared.Index.{Index}
+use Rattle.index_types.specs.declared.Index.{Index}
 use Rattle.index_state.specs.Index.{remove_of}
 use Rattle.tree_state.specs.declared.Slots.{Slots}
 use Rattle.tree_state.specs.declared.Locals.{Locals}
@@ -20,31 +18,29 @@ use Rattle.tree_state.specs.declared.Keys.{Keys}
 use Rattle.tree_state.specs.declared.Pending.{Pending}
 use Rattle.tree_state.specs.declared.Tree.{Tree}
 use Rattle.tree_state.specs.declared.Refusal.TheVariants as no
-use Rattle.tree_state.specs.declared.Verdict.{Verdict}
-use Rattle.tree_state.specs.Tree.{position_of, live, committed_at, key_at, stored_bounds, checked}
-use Rattle.tree_state.specs.declared.After.{After}
+use Rattle.tree_state.specs.Tree.{position_of, live, committed_at, key_at, stored_bounds, checked, Verdict, After}
 use Rattle.tree_steps.specs.Setters.{held, of_node, after, mark_both}
 
 -- ---- refusals
 
-abbrev pub parent_live : Tree → OptionNodeId → Bool
-parent_live t node.None = true
-parent_live t (node.Some h) = live t h
+abbrev pub parent_live : Tree → Option NodeId → Bool
+parent_live t None = true
+parent_live t (Some h) = live t h
 
 -- the position of a node that is at or below the node at position i: two comparisons of positions
-abbrev pub at_or_below : Tree → ℕ → OptionNodeId → Bool
-at_or_below t i node.None = false
-at_or_below t i (node.Some h) = leb i (position_of t h.0) && ltb (position_of t h.0) (end_of t.links i)
+abbrev pub at_or_below : Tree → ℕ → Option NodeId → Bool
+at_or_below t i None = false
+at_or_below t i (Some h) = leb i (position_of t h.0) && ltb (position_of t h.0) (end_of t.links i)
 
 -- 1, 3, 5, 6, 9
-abbrev pub insert_verdict : Tree → OptionNodeId → LocalNode → Verdict
+abbrev pub insert_verdict : Tree → Option NodeId → LocalNode → Verdict
 insert_verdict t parent v =
     checked
     (checked (checked (checked (held t) (parent_live t parent) no.DeadParent) (finite_local v) no.NotFinite) (known v.flags) no.UnknownFlags)
     (ltb t.links.count 256) no.Full
 
 -- 1, 2, 3, 4
-abbrev pub reparent_verdict : Tree → NodeId → OptionNodeId → Verdict
+abbrev pub reparent_verdict : Tree → NodeId → Option NodeId → Verdict
 reparent_verdict t i parent =
     checked (checked (of_node t i) (parent_live t parent) no.DeadParent) (not (at_or_below t (position_of t i.0) parent)) no.BelowItself
 
@@ -71,9 +67,9 @@ take_slot s =
       frees = s.frees - 1;
     }
 
-abbrev pub link_new : Tree → OptionNodeId → ℕ → Links
-link_new t node.None x = add_root t.links x
-link_new t (node.Some h) x = add_last t.links (position_of t h.0) x
+abbrev pub link_new : Tree → Option NodeId → ℕ → Links
+link_new t None x = add_root t.links x
+link_new t (Some h) x = add_last t.links (position_of t h.0) x
 
 abbrev pub store_local : Locals → ℕ → LocalNode → Locals
 store_local l x v =
@@ -101,7 +97,7 @@ clear_boxes w x =
 abbrev pub without_key : Keys → ℕ → Keys
 without_key k x = record { committed = set k.committed x false; slot = k.slot; generation = k.generation }
 
-unfoldable pub insert_tree : Tree → OptionNodeId → LocalNode → Tree
+unfoldable pub insert_tree : Tree → Option NodeId → LocalNode → Tree
 insert_tree t parent v =
     let x = slot_of t.slots in
     record {
@@ -160,11 +156,11 @@ remove_tree t i = with_links (remove_all t (subtree_at t.links i)) (cut_tree t.l
 
 -- ---- reparent: last among the new siblings, marked, and changed in both
 
-abbrev pub move_links : Tree → ℕ → OptionNodeId → Links
-move_links t i node.None = move_root t.links i
-move_links t i (node.Some h) = move_last t.links i (position_of t h.0)
+abbrev pub move_links : Tree → ℕ → Option NodeId → Links
+move_links t i None = move_root t.links i
+move_links t i (Some h) = move_last t.links i (position_of t h.0)
 
-unfoldable pub reparent_tree : Tree → ℕ → OptionNodeId → Tree
+unfoldable pub reparent_tree : Tree → ℕ → Option NodeId → Tree
 reparent_tree t x parent =
     record {
       slots = t.slots;
@@ -179,8 +175,8 @@ reparent_tree t x parent =
 
 -- ---- the calls: what each answers, and the tree after it
 
-abbrev pub remove_call : Tree → NodeId → After
+abbrev pub remove_call : Tree → NodeId → After Unit
 remove_call t i = after (of_node t i) (remove_tree t (position_of t i.0)) t
 
-abbrev pub reparent_call : Tree → NodeId → OptionNodeId → After
+abbrev pub reparent_call : Tree → NodeId → Option NodeId → After Unit
 reparent_call t i parent = after (reparent_verdict t i parent) (reparent_tree t i.0 parent) t

@@ -1,2 +1,0 @@
-pub mod Tap
-pub mod Answers

@@ -1,54 +1,37 @@
-// The fine test of a tap on a node: its flags, its bounds plus slop and its clip, and the clips of those above it; over lent tables (tree.rs: hit_test_point).
-ghost use Rattle.std.specs.Prelude.{◌≡◌, true, ◌&&◌, ◌<◌, ◌≤◌, length};
-ghost use Rattle.tree_state.specs.Sound.{every_of};
-ghost use Rattle.tree_sound.specs.Parts.{Low};
-ghost use Rattle.tree_taps.specs.order.Order.{Shown};
+// The fine test of a tap on a node: its flags, its bounds plus slop and its clip, and the clips of those above it (tree.rs: hit_test_point).
+ghost use Rattle.std.specs.Prelude.{◌≡◌, ◌<◌};
+ghost use Rattle.tree_steps.specs.Commit.{ancestors};
+ghost use Rattle.tree_steps.specs.Requests as request;
+ghost use Rattle.tree_verdicts.specs.Held.{Held};
 ghost use Rattle.tree_taps.specs.fine.Fine as spec;
 
 use geometry::point::Point;
+use tree_state::Tree;
 use tree_types::NodeFlags;
 
 // Whether the point, mapped back by the inverse of the node's world transform, is in its clip.
-fn in_clip<'a>(
-    kind: &'a [u8; 256],
-    clip: &'a [f64; 2048],
-    transform: &'a [f64; 1536],
-    x: usize,
-    point: Point,
-) -> bool
-    requires { x < 256 }
-    ensures { result ≡ spec.clip_holds kind.now clip.now transform.now point x }
+#[tactic(auto, unfolding(crate::specs::fine::Fine::clip_holds))]
+fn in_clip(tree: &Tree, slot: usize, point: Point) -> bool
+    requires { slot < 256 }
+    ensures { result ≡ spec.clip_holds tree.now point slot }
 {
-    let own = node_tables::clip_at(kind[x], clip, x);
-    let placed = node_tables::affine_at(transform, x);
-    let inverse = placed.inverse();
-    own.contains(inverse.map_point(point))
+    let own = node_tables::clip_at(tree.locals.kind[slot], &tree.locals.clip, slot);
+    let placed = node_tables::affine_at(&tree.worlds.transform, slot);
+    own.contains(placed.inverse().map_point(point))
 }
 
-// The climb: the same of every node above the position `at`, each under its own inverse.
-fn in_clips<'a>(
-    order: &'a [u32; 256],
-    depth: &'a [u32; 256],
-    at: usize,
-    kind: &'a [u8; 256],
-    clip: &'a [f64; 2048],
-    transform: &'a [f64; 1536],
-    point: Point,
-) -> bool
-    requires { (at < 256) × (length order.now ≡ 256) × (length depth.now ≡ 256) × Low order.now at }
-    ensures { result
-        ≡ every_of
-        (spec.clip_holds kind.now clip.now transform.now point)
-        (spec.above_at order.now depth.now at) }
+// The climb: the same of every node above the position `at`, each under its own inverse. (The climb of `write_path` does not stop early, and writes:
+// one function for both would be no plainer.)
+fn in_clips(tree: &Tree, at: usize, point: Point) -> bool
+    requires { (at < tree.now.links.count) × Held tree.now }
+    ensures { result ≡ request.in_stored_clips tree.now (ancestors tree.now at) point }
 {
-    let mut d = depth[at];
-    let mut j = at;
-    while 0 < j {
-        j -= 1;
-        if depth[j] < d {
-            d = depth[j];
-            let q = order[j] as usize;
-            if !in_clip(kind, clip, transform, q, point) {
+    let mut depth = tree.links.depth[at];
+    for above in (0..at).rev() {
+        if tree.links.depth[above] < depth {
+            depth = tree.links.depth[above];
+            let slot = tree.links.order[above] as usize;
+            if !in_clip(tree, slot, point) {
                 return false;
             }
         }
@@ -57,59 +40,31 @@ fn in_clips<'a>(
 }
 
 // Whether the point reaches a node: bounds plus slop and own clip.
-fn reaches<'a>(
-    bounds: &'a [f64; 1024],
-    slop: &'a [f64; 1024],
-    kind: &'a [u8; 256],
-    clip: &'a [f64; 2048],
-    transform: &'a [f64; 1536],
-    point: Point,
-    x: usize,
-) -> bool
-    requires { x < 256 }
-    ensures { result
-        ≡ spec.reaches bounds.now slop.now kind.now clip.now transform.now point x }
+#[tactic(auto, unfolding(crate::specs::fine::Fine::reaches, tree_state::specs::Tree::local_at))]
+fn reaches(tree: &Tree, slot: usize, point: Point) -> bool
+    requires { slot < 256 }
+    ensures { result ≡ spec.reaches tree.now point slot }
 {
-    let own = node_tables::clip_at(kind[x], clip, x);
-    let placed = node_tables::affine_at(transform, x);
-    let area = node_tables::rect_at(bounds, x);
-    let more = node_tables::insets_at(slop, x);
+    let own = node_tables::clip_at(tree.locals.kind[slot], &tree.locals.clip, slot);
+    let placed = node_tables::affine_at(&tree.worlds.transform, slot);
+    let area = node_tables::rect_at(&tree.locals.bounds, slot);
+    let more = node_tables::insets_at(&tree.locals.slop, slot);
     tree_worlds::contains(placed.inverse(), area, more, own, point)
 }
 
-// Inner: the fine test of an entry's node, if the entry is visited: flags, the node itself, the clips above it.
-pub(crate) fn fine<'a>(
-    visited: bool,
-    flags: &'a [u8; 256],
-    bounds: &'a [f64; 1024],
-    slop: &'a [f64; 1024],
-    kind: &'a [u8; 256],
-    clip: &'a [f64; 2048],
-    transform: &'a [f64; 1536],
-    order: &'a [u32; 256],
-    depth: &'a [u32; 256],
-    count: usize,
-    asked: NodeFlags,
-    point: Point,
-    x: usize,
-) -> bool
-    requires { (count ≤ 256) × (length order.now ≡ 256) × (length depth.now ≡ 256) × Low order.now count
-        × (visited ≡ true → Shown order.now count x) }
-    ensures { result
-        ≡ visited
-        && spec.fine_at flags.now bounds.now slop.now kind.now clip.now
-        transform.now order.now depth.now count asked point x }
+// Inner: the fine test of a node: flags, the node itself, the clips above it.
+#[tactic(auto, unfolding(crate::specs::fine::Fine::reaches, tree_state::specs::Tree::local_at, tree_steps::specs::Requests::fine))]
+pub(crate) fn fine(tree: &Tree, slot: usize, asked: NodeFlags, point: Point) -> bool
+    requires { spec.Shown tree.now slot × Held tree.now }
+    ensures { result ≡ request.fine tree.now asked point slot }
 {
-    if !visited {
-        return false;
-    }
-    let has = NodeFlags(flags[x]);
+    let has = NodeFlags(tree.locals.flags[slot]);
     if !has.contains(asked) {
         return false;
     }
-    if !reaches(bounds, slop, kind, clip, transform, point, x) {
+    if !reaches(tree, slot, point) {
         return false;
     }
-    let at = link_table::position(order, count, x as u32);
-    in_clips(order, depth, at, kind, clip, transform, point)
+    let at = tree.links.position(slot as u32);
+    in_clips(tree, at, point)
 }

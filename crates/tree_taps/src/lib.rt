@@ -12,96 +12,35 @@ ghost use Rattle.tree_taps.specs.Taps as spec;
 pub use crate::candidates::strongest;
 use geometry::point::Point;
 use index_types::NodeId;
-use tree_state::{Refusal, Tree, Verdict};
+use tree_state::{Refusal, Tree};
 use tree_types::QueryFilter;
 use tree_verdicts::{nodes, requests};
 
-// What a tap answers: the node, and how many ids stand in front of the room, its path from the root.
+// A node that is hit, and how many ids stand in front of the room, its path from the root.
 #[derive(Clone, Copy)]
-pub enum Tapped {
-    Nothing,
-    Hit(NodeId, usize),
-    Refused(Refusal),
+pub struct Hit {
+    pub node: NodeId,
+    pub depth: usize,
 }
 
-// The strongest node that the point reaches, and its path.
-pub fn hit_test_point(t: Tree, point: Point, filter: QueryFilter, room: &mut [u32]) -> Tapped
-    ensures answer { result ≡ spec.tap_call t filter.required_flags point (length room.old) }
-    ensures rooms { room.new ≡ spec.tap_room t filter.required_flags point room.old }
+// The strongest node that the point reaches, if there is one, and its path.
+#[tactic(auto, unfolding(tree_steps::specs::Requests::room_if, tree_state::specs::Tree::value_if, tree_steps::specs::Requests::ids_in_front))]
+pub fn hit_test_point(
+    tree: &Tree,
+    point: Point,
+    filter: QueryFilter,
+    room: &mut [u32],
+) -> Result<Option<Hit>, Refusal>
+    ensures answer { result ≡ spec.tap_call tree.now filter.required_flags point (length room.old) }
+    ensures rooms { room.new ≡ spec.tap_room tree.now filter.required_flags point room.old }
 {
     let asked = filter.required_flags;
-    let len = room.len();
-    let fresh = requests::asked_verdict(
-        &t.links.order,
-        &t.links.depth,
-        &t.slots.generation,
-        &t.slots.free,
-        &t.locals.bounds,
-        &t.locals.slop,
-        &t.locals.transform,
-        &t.locals.kind,
-        &t.locals.clip,
-        &t.locals.flags,
-        &t.worlds.bounds,
-        &t.worlds.hit_bounds,
-        &t.marks.marked,
-        &t.marks.transform,
-        &t.marks.clip,
-        &t.keys.committed,
-        &t.keys.slot,
-        &t.keys.generation,
-        &t.index.mark,
-        &t.index.generation,
-        &t.index.payload,
-        &t.index.free,
-        &t.index.dirty,
-        t.links.count,
-        t.slots.used,
-        t.slots.frees,
-        t.pending.count,
-        t.index.frees,
-        t.index.queued,
-        t.index.used,
-        asked,
-    );
-    let v = requests::room_verdict(fresh, len);
-    if let Verdict::Refused(r) = v {
-        return Tapped::Refused(r);
-    }
-    let best = strongest(
-        &t.index.backend.present,
-        &t.index.backend.boxes,
-        &t.index.mark,
-        &t.index.payload,
-        &t.locals.flags,
-        &t.locals.level,
-        &t.locals.bounds,
-        &t.locals.slop,
-        &t.locals.kind,
-        &t.locals.clip,
-        &t.worlds.transform,
-        &t.links.order,
-        &t.links.depth,
-        &t.slots.generation,
-        t.links.count,
-        t.index.used,
-        asked,
-        point,
-    );
-    if best == 256 {
-        return Tapped::Nothing;
-    }
-    let x = best as u32;
-    let at = link_table::position(&t.links.order, t.links.count, x);
-    let own = nodes::id_of(&t.slots.generation, x);
-    let deep = paths::write_path(
-        &t.links.order,
-        &t.links.depth,
-        &t.slots.generation,
-        t.links.count,
-        x,
-        at,
-        room,
-    );
-    Tapped::Hit(own, deep)
+    requests::request_verdict(tree, asked, room.len())?;
+    let best = strongest(tree, asked, point);
+    let Some(slot) = best else {
+        return Ok(None);
+    };
+    let node = nodes::id_at(tree, slot);
+    let depth = paths::write_path(tree, slot, room);
+    Ok(Some(Hit { node, depth }))
 }

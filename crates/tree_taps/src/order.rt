@@ -1,71 +1,57 @@
-// Which of two candidates of a tap is the stronger: level, depth, generation, index; over lent tables (tree.rs: hit_test_point, id_is_newer).
-ghost use Rattle.std.specs.Prelude.{◌≡◌, true, cond, ◌≤◌, length};
-ghost use Rattle.std.specs.Int.Signed.{lt_z, le_z};
-ghost use Rattle.tree_taps.specs.order.Order as spec;
+// Which of two candidates of a tap is the stronger: level, depth, generation, index (tree.rs: hit_test_point, id_is_newer).
+ghost use Rattle.std.specs.Prelude.{◌≡◌, IfSome, get_or, pos};
+ghost use Rattle.tree_state.specs.Tree.{position_of, generation_at};
+ghost use Rattle.tree_steps.specs.Requests as request;
+ghost use Rattle.tree_verdicts.specs.Held.{Held};
+ghost use Rattle.tree_taps.specs.fine.Fine.{Shown};
+ghost use Rattle.tree_taps.specs.candidates.Candidates.{best_of};
 
-// Levels are signed.
-fn lower(a: i32, b: i32) -> bool
-    ensures { result ≡ lt_z a b }
-{
-    a < b
+use tree_state::Tree;
+
+// What a node is compared by, in this order: its level, its depth, and by its id which is the newer.
+#[derive(Clone, Copy, PartialEq, PartialOrd)]
+struct Rank {
+    level: i32,
+    depth: u32,
+    generation: u32,
+    slot: u32,
 }
 
-fn no_higher(a: i32, b: i32) -> bool
-    ensures { result ≡ le_z a b }
+fn rank_of(tree: &Tree, slot: u32) -> Rank
+    requires { Shown tree.now slot × Held tree.now }
+    ensures { (result.level ≡ get_or tree.now.locals.level slot (pos 0))
+        × (result.depth ≡ get_or tree.now.links.depth (position_of tree.now slot) 0)
+        × (result.generation ≡ generation_at tree.now slot)
+        × (result.slot ≡ slot) }
 {
-    a <= b
+    Rank {
+        level: tree.locals.level[slot as usize],
+        depth: tree.links.depth[tree.links.position(slot)],
+        generation: tree.slots.generation[slot as usize],
+        slot,
+    }
 }
 
-// Whether x wins over y: level, depth, generation, index.
-fn stronger<'a>(
-    level: &'a [i32; 256],
-    order: &'a [u32; 256],
-    depth: &'a [u32; 256],
-    count: usize,
-    generation: &'a [u32; 256],
-    x: usize,
-    y: usize,
-) -> bool
-    requires { (count ≤ 256) × (length order.now ≡ 256) × spec.Shown order.now count x × spec.Shown order.now count y }
-    ensures { result ≡ spec.stronger_at level.now order.now depth.now count generation.now x y }
+// Whether the slot x wins over y.
+fn stronger(tree: &Tree, x: u32, y: u32) -> bool
+    requires { Shown tree.now x × Shown tree.now y × Held tree.now }
+    ensures { result ≡ request.stronger tree.now x y }
 {
-    let at_x = link_table::position(order, count, x as u32);
-    let at_y = link_table::position(order, count, y as u32);
-    let depth_x = depth[at_x];
-    let depth_y = depth[at_y];
-    let generation_x = generation[x];
-    let generation_y = generation[y];
-    let level_x = level[x];
-    let level_y = level[y];
-    let newer = (generation_y < generation_x) | ((generation_x == generation_y) & (y < x));
-    let deeper = (depth_y < depth_x) | ((depth_x == depth_y) & newer);
-    lower(level_y, level_x) | (no_higher(level_y, level_x) & deeper)
+    rank_of(tree, x) > rank_of(tree, y)
 }
 
-// Inner: the stronger of the best so far, 256 where there is none, and x, if x is a candidate.
-pub(crate) fn keep<'a>(
-    take: bool,
-    level: &'a [i32; 256],
-    order: &'a [u32; 256],
-    depth: &'a [u32; 256],
-    count: usize,
-    generation: &'a [u32; 256],
-    best: usize,
-    x: usize,
-) -> usize
-    requires { (count ≤ 256) × (length order.now ≡ 256) × ((best ≡ 256 → ⊥) → spec.Shown order.now count best)
-        × (take ≡ true → spec.Shown order.now count x) }
-    ensures { let won = spec.kept level.now order.now depth.now count generation.now best x in
-        result ≡ cond take won best }
+// Inner: the stronger of the best so far and x.
+pub(crate) fn next(tree: &Tree, x: u32, best: Option<u32>) -> Option<u32>
+    requires { Shown tree.now x × IfSome best (Shown tree.now) × Held tree.now }
+    ensures next { best_of result ≡ request.next tree.now x (best_of best) }
+    ensures shown { IfSome result (Shown tree.now) }
 {
-    if !take {
-        return best;
+    let Some(y) = best else {
+        return Some(x);
+    };
+    if stronger(tree, x, y) {
+        Some(x)
+    } else {
+        Some(y)
     }
-    if best == 256 {
-        return x;
-    }
-    if stronger(level, order, depth, count, generation, x, best) {
-        return x;
-    }
-    best
 }

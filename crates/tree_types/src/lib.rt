@@ -9,14 +9,7 @@ use geometry::affine::Affine;
 use geometry::insets::Insets;
 use geometry::rect::Rect;
 use geometry_clips::clip::Clip;
-use index_types::{Aabb2D, NodeId};
-
-// Where the Rust has an Option<NodeId>: a parent or none, a next node or none.
-#[derive(Clone, Copy)]
-pub enum OptionNodeId {
-    None,
-    Some(NodeId),
-}
+use index_types::Aabb2D;
 
 // A flag byte; above 7 it is refused with 6 wherever it would be stored or asked for.
 #[derive(Clone, Copy)]

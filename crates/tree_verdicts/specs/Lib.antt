@@ -1,3 +1,1 @@
-pub mod nodes
-pub mod need
-pub mod marks
+pub mod Held

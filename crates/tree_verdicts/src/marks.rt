@@ -5,12 +5,11 @@ ghost use Rattle.tree_steps.specs.Setters as spec;
 use tree_state::Marks;
 
 // Inner: the tables hold 256.
-pub fn mark_both(mut m: Marks, x: usize) -> Marks
-    requires { x < 256 }
-    ensures { result ≡ spec.mark_both m x }
+pub fn mark_both(marks: &mut Marks, slot: usize)
+    requires { slot < 256 }
+    ensures { marks.new ≡ spec.mark_both marks.old slot }
 {
-    m.marked[x] = true;
-    m.transform[x] = true;
-    m.clip[x] = true;
-    m
+    marks.marked[slot] = true;
+    marks.transform[slot] = true;
+    marks.clip[slot] = true;
 }

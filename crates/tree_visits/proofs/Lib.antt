@@ -1,4 +1,3 @@
-pub mod Lent
 pub mod Owner
 pub mod Walked
 pub mod Laws

@@ -8,8 +8,8 @@ use Rattle.geometry.specs.declared.affine.Affine.{Affine}
 use Rattle.geometry.specs.Transform.{identity, mapped, product}
 use Rattle.geometry.specs.bbox.Bbox.{transform_rect_bbox}
 use Rattle.geometry_clips.specs.declared.clip.Clip.{Clip}
-use Rattle.geometry_clips.specs.declared.clip_rect.ClipRect.{ClipRect}
-use Rattle.geometry_clips.specs.declared.clip_rect.ClipRect.TheVariants as of
+use Rattle.std.specs.declared.option.Option.{Option}
+use Rattle.std.specs.declared.option.Option.TheVariants as of
 use Rattle.geometry_clips.specs.Clips.{clip_rect, inside}
 use Rattle.tree_worlds.specs.declared.Placed.{Placed}
 
@@ -18,21 +18,21 @@ abbrev pub at_root : Placed
 at_root = record { transform = identity; clip = of.None }
 
 -- the image of a clip's rectangle
-unfoldable pub image : Affine → ClipRect → ClipRect
+unfoldable pub image : Affine → Option Rect → Option Rect
 image t of.None = of.None
 image t (of.Some r) = of.Some (transform_rect_bbox t r)
 
 -- the own clip's image intersected with the parent's world clip, or the one there is
-unfoldable pub meet_own : Rect → ClipRect → ClipRect
+unfoldable pub meet_own : Rect → Option Rect → Option Rect
 meet_own own of.None = of.Some own
 meet_own own (of.Some p) = of.Some (intersection own p)
 
-unfoldable pub meet : ClipRect → ClipRect → ClipRect
+unfoldable pub meet : Option Rect → Option Rect → Option Rect
 meet of.None parent = parent
 meet (of.Some own) parent = meet_own own parent
 
 -- intersected with the world clip, if any
-unfoldable pub clipped : Rect → ClipRect → Rect
+unfoldable pub clipped : Rect → Option Rect → Rect
 clipped r of.None = r
 clipped r (of.Some c) = intersection r c
 

@@ -1,5 +1,5 @@
-// The calls of the index by value (document 01, modules 4 and 5): understory_index's index.rs. Its record and its answers stand in `index_state`.
-#![tactic(auto)]
+// The calls of the index (understory_index's index.rs). What each refuses, tells and leaves stands in `index_state`.
+#![tactic(auto, unfolding(index_state::specs::Calls::answered))]
 
 pub mod commits; // commit
 pub mod inserts; // insert and clear

@@ -1,308 +1,123 @@
 // One number of a tree's tables, changed by hand. A place beyond a table changes nothing.
-use text_lines::line;
+use text_lines::words::{Words, number, whole};
 use tree_state::Tree;
 
-fn words_256(a: &mut [u32; 256], i: usize, v: u32) {
-    if i < 256 {
-        a[i] = v;
+fn put<T: Copy>(table: &mut [T], place: u32, value: T) {
+    if let Some(old) = table.get_mut(place as usize) {
+        *old = value;
     }
 }
 
-fn words_512(a: &mut [u32; 512], i: usize, v: u32) {
-    if i < 512 {
-        a[i] = v;
+// `TABLE PLACE NUMBER`: a whole number, or an f64 by its bits. Nothing where the words say no such thing.
+pub(crate) fn change(words: &mut Words, tree: &mut Tree) -> Option<()> {
+    let name = words.next()?;
+    let place = words.whole()?;
+    let value = words.next()?;
+    if !words.is_empty() {
+        return None;
     }
+    node_words(tree, name, place, value)
 }
 
-fn words_1024(a: &mut [u32; 1024], i: usize, v: u32) {
-    if i < 1024 {
-        a[i] = v;
+// The nodes' tables of whole numbers.
+fn node_words(tree: &mut Tree, name: &[u8], place: u32, value: &[u8]) -> Option<()> {
+    match name {
+        b"slots.generation" => put(&mut tree.slots.generation, place, whole(value)?),
+        b"slots.free" => put(&mut tree.slots.free, place, whole(value)?),
+        b"links.order" => put(&mut tree.links.order, place, whole(value)?),
+        b"links.depth" => put(&mut tree.links.depth, place, whole(value)?),
+        b"keys.slot" => put(&mut tree.keys.slot, place, whole(value)?),
+        b"keys.generation" => put(&mut tree.keys.generation, place, whole(value)?),
+        _ => return entry_words(tree, name, place, value),
     }
+    Some(())
 }
 
-// Which of the nodes' tables of whole numbers, in the order of `words`; 6 for none.
-fn word_table(line: &[u8]) -> usize {
-    line::which(
-        b"slots.generation slots.free links.order links.depth keys.slot keys.generation",
-        line,
-        1,
-    )
-}
-
-fn words(mut t: Tree, table: usize, i: usize, v: u32) -> Tree {
-    match table {
-        0 => words_256(&mut t.slots.generation, i, v),
-        1 => words_256(&mut t.slots.free, i, v),
-        2 => words_256(&mut t.links.order, i, v),
-        3 => words_256(&mut t.links.depth, i, v),
-        4 => words_256(&mut t.keys.slot, i, v),
-        _ => words_256(&mut t.keys.generation, i, v),
+// The entries'.
+fn entry_words(tree: &mut Tree, name: &[u8], place: u32, value: &[u8]) -> Option<()> {
+    match name {
+        b"index.generation" => put(&mut tree.index.generation, place, whole(value)?),
+        b"index.free" => put(&mut tree.index.free, place, whole(value)?),
+        b"index.dirty" => put(&mut tree.index.dirty, place, whole(value)?),
+        b"index.payload" => put(&mut tree.index.payload, place, whole(value)?),
+        _ => return counts(tree, name, place, value),
     }
-    t
+    Some(())
 }
 
-// Which of the entries' tables of whole numbers, in the order of `entries`; 4 for none.
-fn entry_table(line: &[u8]) -> usize {
-    line::which(
-        b"index.generation index.free index.dirty index.payload",
-        line,
-        1,
-    )
+fn count(value: &[u8]) -> Option<usize> {
+    Some(whole::<u32>(value)? as usize)
 }
 
-fn entries(mut t: Tree, table: usize, i: usize, v: u32) -> Tree {
-    match table {
-        0 => words_512(&mut t.index.generation, i, v),
-        1 => words_512(&mut t.index.free, i, v),
-        2 => words_512(&mut t.index.dirty, i, v),
-        _ => words_1024(&mut t.index.payload, i, v),
+fn counts(tree: &mut Tree, name: &[u8], place: u32, value: &[u8]) -> Option<()> {
+    match name {
+        b"slots.used" => tree.slots.used = count(value)?,
+        b"slots.frees" => tree.slots.frees = count(value)?,
+        b"links.count" => tree.links.count = count(value)?,
+        b"pending.count" => tree.pending.count = count(value)?,
+        b"index.used" => tree.index.used = count(value)?,
+        b"index.frees" => tree.index.frees = count(value)?,
+        b"index.queued" => tree.index.queued = count(value)?,
+        _ => return bytes(tree, name, place, value),
     }
-    t
+    Some(())
 }
 
-fn put(a: &mut usize, v: u32) {
-    *a = v as usize;
+// From 255 on 255.
+fn byte(value: &[u8]) -> Option<u8> {
+    Some(u8::try_from(whole::<u32>(value)?).unwrap_or(u8::MAX))
 }
 
-// Which of the counts, in the order of `counts`; 7 for none.
-fn count_table(line: &[u8]) -> usize {
-    line::which(
-        b"slots.used slots.frees links.count pending.count index.used index.frees index.queued",
-        line,
-        1,
-    )
-}
-
-fn counts(mut t: Tree, table: usize, v: u32) -> Tree {
-    match table {
-        0 => put(&mut t.slots.used, v),
-        1 => put(&mut t.slots.frees, v),
-        2 => put(&mut t.links.count, v),
-        3 => put(&mut t.pending.count, v),
-        4 => put(&mut t.index.used, v),
-        5 => put(&mut t.index.frees, v),
-        _ => put(&mut t.index.queued, v),
+fn bytes(tree: &mut Tree, name: &[u8], place: u32, value: &[u8]) -> Option<()> {
+    match name {
+        b"locals.kind" => put(&mut tree.locals.kind, place, byte(value)?),
+        b"locals.flags" => put(&mut tree.locals.flags, place, byte(value)?),
+        b"index.mark" => put(&mut tree.index.mark, place, byte(value)?),
+        b"index.kept" => put(&mut tree.index.kept, place, byte(value)?),
+        b"backend.present" => put(&mut tree.index.backend.present, place, byte(value)?),
+        _ => return truths(tree, name, place, value),
     }
-    t
+    Some(())
 }
 
-fn byte(v: u32) -> u8 {
-    if v < 256 { v as u8 } else { 255 }
+fn truth(value: &[u8]) -> Option<bool> {
+    Some(whole::<u32>(value)? != 0)
 }
 
-fn bytes_256(a: &mut [u8; 256], i: usize, v: u32) {
-    if i < 256 {
-        a[i] = byte(v);
+fn truths(tree: &mut Tree, name: &[u8], place: u32, value: &[u8]) -> Option<()> {
+    match name {
+        b"marks.marked" => put(&mut tree.marks.marked, place, truth(value)?),
+        b"marks.transform" => put(&mut tree.marks.transform, place, truth(value)?),
+        b"marks.clip" => put(&mut tree.marks.clip, place, truth(value)?),
+        b"keys.committed" => put(&mut tree.keys.committed, place, truth(value)?),
+        b"worlds.clipped" => put(&mut tree.worlds.clipped, place, truth(value)?),
+        _ => return node_floats(tree, name, place, value),
     }
+    Some(())
 }
 
-fn bytes_512(a: &mut [u8; 512], i: usize, v: u32) {
-    if i < 512 {
-        a[i] = byte(v);
+fn node_floats(tree: &mut Tree, name: &[u8], place: u32, value: &[u8]) -> Option<()> {
+    match name {
+        b"locals.bounds" => put(&mut tree.locals.bounds, place, number(value)?),
+        b"locals.slop" => put(&mut tree.locals.slop, place, number(value)?),
+        b"locals.transform" => put(&mut tree.locals.transform, place, number(value)?),
+        b"locals.clip" => put(&mut tree.locals.clip, place, number(value)?),
+        b"worlds.transform" => put(&mut tree.worlds.transform, place, number(value)?),
+        b"worlds.clip" => put(&mut tree.worlds.clip, place, number(value)?),
+        b"worlds.bounds" => put(&mut tree.worlds.bounds, place, number(value)?),
+        b"worlds.hit_bounds" => put(&mut tree.worlds.hit_bounds, place, number(value)?),
+        b"pending.rects" => put(&mut tree.pending.rects, place, number(value)?),
+        _ => return entry_floats(tree, name, place, value),
     }
+    Some(())
 }
 
-// Which of the tables of bytes, in the order of `bytes`; 5 for none.
-fn byte_table(line: &[u8]) -> usize {
-    line::which(
-        b"locals.kind locals.flags index.mark index.kept backend.present",
-        line,
-        1,
-    )
-}
-
-fn bytes(mut t: Tree, table: usize, i: usize, v: u32) -> Tree {
-    match table {
-        0 => bytes_256(&mut t.locals.kind, i, v),
-        1 => bytes_256(&mut t.locals.flags, i, v),
-        2 => bytes_512(&mut t.index.mark, i, v),
-        3 => bytes_512(&mut t.index.kept, i, v),
-        _ => bytes_512(&mut t.index.backend.present, i, v),
+fn entry_floats(tree: &mut Tree, name: &[u8], place: u32, value: &[u8]) -> Option<()> {
+    match name {
+        b"index.aabb" => put(&mut tree.index.aabb, place, number(value)?),
+        b"index.prev" => put(&mut tree.index.prev, place, number(value)?),
+        b"backend.boxes" => put(&mut tree.index.backend.boxes, place, number(value)?),
+        _ => return None,
     }
-    t
-}
-
-fn truths_256(a: &mut [bool; 256], i: usize, v: u32) {
-    if i < 256 {
-        a[i] = v != 0;
-    }
-}
-
-// Which of the tables of truth values, in the order of `truths`; 5 for none.
-fn truth_table(line: &[u8]) -> usize {
-    line::which(
-        b"marks.marked marks.transform marks.clip keys.committed worlds.clipped",
-        line,
-        1,
-    )
-}
-
-fn truths(mut t: Tree, table: usize, i: usize, v: u32) -> Tree {
-    match table {
-        0 => truths_256(&mut t.marks.marked, i, v),
-        1 => truths_256(&mut t.marks.transform, i, v),
-        2 => truths_256(&mut t.marks.clip, i, v),
-        3 => truths_256(&mut t.keys.committed, i, v),
-        _ => truths_256(&mut t.worlds.clipped, i, v),
-    }
-    t
-}
-
-fn numbers_1024(a: &mut [f64; 1024], i: usize, v: f64) {
-    if i < 1024 {
-        a[i] = v;
-    }
-}
-
-fn numbers_1536(a: &mut [f64; 1536], i: usize, v: f64) {
-    if i < 1536 {
-        a[i] = v;
-    }
-}
-
-fn numbers_2048(a: &mut [f64; 2048], i: usize, v: f64) {
-    if i < 2048 {
-        a[i] = v;
-    }
-}
-
-// Which of the nodes' tables of f64, in the order of `numbers`; 9 for none.
-fn number_table(line: &[u8]) -> usize {
-    line::which(
-        b"locals.bounds locals.slop locals.transform locals.clip worlds.transform worlds.clip worlds.bounds worlds.hit_bounds pending.rects",
-        line,
-        1,
-    )
-}
-
-fn numbers(mut t: Tree, table: usize, i: usize, v: f64) -> Tree {
-    match table {
-        0 => numbers_1024(&mut t.locals.bounds, i, v),
-        1 => numbers_1024(&mut t.locals.slop, i, v),
-        2 => numbers_1536(&mut t.locals.transform, i, v),
-        3 => numbers_2048(&mut t.locals.clip, i, v),
-        4 => numbers_1536(&mut t.worlds.transform, i, v),
-        5 => numbers_1024(&mut t.worlds.clip, i, v),
-        6 => numbers_1024(&mut t.worlds.bounds, i, v),
-        7 => numbers_1024(&mut t.worlds.hit_bounds, i, v),
-        _ => numbers_1024(&mut t.pending.rects, i, v),
-    }
-    t
-}
-
-// Which of the entries' tables of f64, in the order of `boxes`; 3 for none.
-fn box_table(line: &[u8]) -> usize {
-    line::which(b"index.aabb index.prev backend.boxes", line, 1)
-}
-
-fn boxes(mut t: Tree, table: usize, i: usize, v: f64) -> Tree {
-    match table {
-        0 => numbers_2048(&mut t.index.aabb, i, v),
-        1 => numbers_2048(&mut t.index.prev, i, v),
-        _ => numbers_2048(&mut t.index.backend.boxes, i, v),
-    }
-    t
-}
-
-// A table by its name: which of those of its type.
-#[derive(Clone, Copy)]
-enum Table {
-    Words(usize),
-    Entries(usize),
-    Counts(usize),
-    Bytes(usize),
-    Truths(usize),
-    Numbers(usize),
-    Boxes(usize),
-    None,
-}
-
-fn float_table(line: &[u8]) -> Table {
-    let numbers = number_table(line);
-    if numbers < 9 {
-        return Table::Numbers(numbers);
-    }
-    let boxes = box_table(line);
-    if boxes < 3 {
-        return Table::Boxes(boxes);
-    }
-    Table::None
-}
-
-fn small_table(line: &[u8]) -> Table {
-    let bytes = byte_table(line);
-    if bytes < 5 {
-        return Table::Bytes(bytes);
-    }
-    let truths = truth_table(line);
-    if truths < 5 {
-        return Table::Truths(truths);
-    }
-    float_table(line)
-}
-
-fn table_of(line: &[u8]) -> Table {
-    let words = word_table(line);
-    if words < 6 {
-        return Table::Words(words);
-    }
-    let entries = entry_table(line);
-    if entries < 4 {
-        return Table::Entries(entries);
-    }
-    let counts = count_table(line);
-    if counts < 7 {
-        return Table::Counts(counts);
-    }
-    small_table(line)
-}
-
-// What a line says, and whether it does.
-#[derive(Clone, Copy)]
-pub(crate) struct Change {
-    pub(crate) is_read: bool,
-    table: Table,
-    place: usize,
-    whole: u32,
-    number: f64,
-}
-
-// Whether a table takes what was read: a whole number, or an f64.
-fn takes(table: Table, is_whole: bool, is_number: bool) -> bool {
-    match table {
-        Table::None => false,
-        Table::Numbers(_) => is_number,
-        Table::Boxes(_) => is_number,
-        _ => is_whole,
-    }
-}
-
-// `set TABLE PLACE NUMBER`: a whole number, or an f64 by its bits.
-pub(crate) fn read(line: &[u8]) -> Change {
-    let table = table_of(line);
-    let place = line::decimal_at(line, 2);
-    let w = line::decimal_at(line, 3);
-    let x = line::number_at(line, 3);
-    let right = takes(table, w.is_read, x.is_read);
-    Change {
-        is_read: right & place.is_read & (line::count(line) == 4),
-        table,
-        place: place.value as usize,
-        whole: w.value,
-        number: x.value,
-    }
-}
-
-pub(crate) fn made(t: Tree, c: Change) -> Tree {
-    let table = c.table;
-    match table {
-        Table::Words(k) => words(t, k, c.place, c.whole),
-        Table::Entries(k) => entries(t, k, c.place, c.whole),
-        Table::Counts(k) => counts(t, k, c.whole),
-        Table::Bytes(k) => bytes(t, k, c.place, c.whole),
-        Table::Truths(k) => truths(t, k, c.place, c.whole),
-        Table::Numbers(k) => numbers(t, k, c.place, c.number),
-        Table::Boxes(k) => boxes(t, k, c.place, c.number),
-        Table::None => t,
-    }
+    Some(())
 }

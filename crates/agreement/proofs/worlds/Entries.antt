@@ -21,7 +21,7 @@ use Rattle.tree_state.specs.declared.Tree.{Tree}
 use Rattle.tree_state.specs.Tree.{committed_at, key_at, stored_hit_bounds}
 use Rattle.tree_state.specs.Tree as tree
 use Rattle.tree_state.specs.Sound.{SoundTree, Owns}
-use Rattle.tree_laws.specs.Whole.{Whole}
+use Rattle.tree_state.specs.Whole.{Whole}
 use Rattle.tree_laws.proofs.Ground.{Linked, low, slot_live, live_has}
 use Rattle.tree_steps.specs.Commit.{Work, new_place, new_hit_bounds, reworked, rework, rework_all, enter_keys}
 use Rattle.agreement.specs.Afresh.{Alike}

@@ -13,7 +13,7 @@ use Rattle.link_forest.proofs.Holds.{Parent, Above, parent_above}
 use Rattle.tree_worlds.specs.declared.Placed.{Placed}
 use Rattle.tree_state.specs.declared.Tree.{Tree}
 use Rattle.tree_state.specs.Tree.{local_at, stored_place, stored_bounds, stored_hit_bounds, any_of}
-use Rattle.tree_laws.specs.Whole.{WholeWorlds}
+use Rattle.tree_state.specs.Whole.{WholeWorlds}
 use Rattle.tree_laws.proofs.Ground.{Linked, low, slot_live, place_of_slot, ancestors_above}
 use Rattle.tree_steps.specs.Commit.{Work, changed_at, ancestors, handed_down, new_place, reworked, rework, rework_all}
 use Rattle.plan.specs.Plan.{Plan}

@@ -8,15 +8,11 @@ use borrow.Author.Tests.{le-ltb, ne_eqb}
 use lib.ListN.{length, get_or, set, take, length-set}
 use lib.Seq.{take-suc-set, get_or-set_other}
 use lib.Ieee.{Float}
-use Rattle.index_types.specs.declared.Aabb2D.{Aabb2D}
-use Rattle.index_types.specs.flat_tables.Tables.{box_at}
 use Rattle.counting.specs.Times.{times}
 use Rattle.counting.proofs.Counting.{hit, times_append}
 use Rattle.index_entries.specs.declared.reads.Mark.{Mark}
-use Rattle.index_entries.specs.declared.reads.Previous.{Previous}
-use Rattle.index_entries.specs.Entries.{previous_at}
 use Rattle.index_entries.proofs.Keep.{Kind, plain, new, moved, gone, kind}
-use Rattle.index_commit.specs.Commit.{Act, rests, adds, moves, drops, act_of, change_of, free_step, Work, work, work_step}
+use Rattle.index_commit.specs.Commit.{Act, rests, adds, moves, drops, act_of, free_step, frees_step, Work, work, work_step}
 use Rattle.agreement.proofs.worlds.Owned.{comes_step}
 
 -- ---- what a slot does, by its mark
@@ -37,10 +33,10 @@ act_keeps moved h = shifted
 act_keeps (gone g) h = absurd (omega arith)
 
 -- such a slot leaves the free list alone
-keeps_free : (n : ℕ) (b : Aabb2D) (p : Previous) (l : List ℕ) (x : ℕ) {a : Act} → Keeps a → ((change_of a n b p).frees ≡ n) × (free_step a l n x ≡ l)
-keeps_free n b p l x rested = (refl, refl)
-keeps_free n b p l x added = (refl, refl)
-keeps_free n b p l x shifted = (refl, refl)
+keeps_free : (n : ℕ) (l : List ℕ) (x : ℕ) {a : Act} → Keeps a → (frees_step a n ≡ n) × (free_step a l n x ≡ l)
+keeps_free n l x rested = (refl, refl)
+keeps_free n l x added = (refl, refl)
+keeps_free n l x shifted = (refl, refl)
 
 module _ (aabb prev : List Float) where
   gone_step : (w : Work) (x : ℕ) → 4 ≤ get_or w.mark x 0
@@ -51,7 +47,7 @@ module _ (aabb prev : List Float) where
   stay_step : (w : Work) (x : ℕ) → 1 ≤ get_or w.mark x 0 → get_or w.mark x 0 ≤ 3 → ((work_step aabb prev w x).frees ≡ w.frees) × ((work_step aabb prev w x).free ≡ w.free)
   unfolding work_step
   stay_step w x a b =
-      keeps_free w.frees (box_at aabb x) (previous_at w.kept prev x) w.free x (act_keeps (kind (get_or w.mark x 0) (λ e. omega arith)) b)
+      keeps_free w.frees w.free x (act_keeps (kind (get_or w.mark x 0) (λ e. omega arith)) b)
 
   work_append : (w : Work) (xs ys : List ℕ) → work aabb prev w (xs ++ ys) ≡ work aabb prev (work aabb prev w xs) ys
   unfolding work

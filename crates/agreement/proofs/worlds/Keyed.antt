@@ -26,13 +26,13 @@ use Rattle.index_entries.specs.declared.reads.Mark.TheVariants as is
 use Rattle.index_entries.specs.Entries.{queue_with, unmarked, updated_mark}
 use Rattle.index_entries.proofs.Finding.{slot_unused}
 use Rattle.index_entries.proofs.Keep.{slot_empty, keep_insert, keep_update}
-use Rattle.index_state.specs.declared.Index.{Index}
+use Rattle.index_types.specs.declared.Index.{Index}
 use Rattle.index_state.specs.Index.{slot_of, generation_of, insert_of, update_of, mark_at}
 use Rattle.index_state.proofs.Soundness.{Counts, queue_length}
 use Rattle.tree_state.specs.declared.Keys.{Keys}
 use Rattle.tree_state.specs.declared.Tree.{Tree}
 use Rattle.tree_state.specs.Tree.{committed_at, id_at, key_at}
-use Rattle.tree_laws.specs.Whole.{WholeKeys, WholeIndex}
+use Rattle.tree_state.specs.Whole.{WholeKeys, WholeIndex}
 use Rattle.tree_steps.specs.Commit.{enter_keys, enter_index}
 use Rattle.agreement.specs.Afresh.{Alike, itself, as_numbers}
 

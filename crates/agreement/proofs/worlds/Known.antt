@@ -15,7 +15,7 @@ use Rattle.index_sound.proofs.Exact.{counted}
 use Rattle.index_sound.specs.Sound.{CountOf}
 use Rattle.index_commit.specs.Commit.{start, work}
 use Rattle.index_commit.proofs.Keep.{keep_commit}
-use Rattle.index_state.specs.declared.Index.{Index}
+use Rattle.index_types.specs.declared.Index.{Index}
 use Rattle.index_state.specs.Index.{work_of}
 use Rattle.index_state.proofs.Calls.{or_none}
 use Rattle.tree_state.specs.declared.Tree.{Tree}

@@ -22,13 +22,13 @@ use Rattle.index_commit.proofs.Loop.{slot_low}
 use Rattle.index_commit.proofs.Keep.{commit_whole}
 use Rattle.index_commit.proofs.Agree.{own_work}
 use Rattle.index_commit.specs.Agree.{Agree}
-use Rattle.index_state.specs.declared.Index.{Index}
+use Rattle.index_types.specs.declared.Index.{Index}
 use Rattle.index_state.specs.Index.{slot_of, mark_at, work_of, commit_of}
 use Rattle.index_state.proofs.Backend.{away, updated_mark_lem, updated_unseen}
 use Rattle.tree_state.specs.declared.Pending.{Pending}
 use Rattle.tree_state.specs.declared.Tree.{Tree}
 use Rattle.tree_state.specs.Tree.{committed_at, key_at, stored_hit_bounds, needs_commit}
-use Rattle.tree_laws.specs.Whole.{Whole, WholeSlots, WholeLinks, WholeLocals, WholeIndex}
+use Rattle.tree_state.specs.Whole.{Whole, WholeSlots, WholeLinks, WholeLocals, WholeIndex}
 use Rattle.tree_laws.proofs.Ground.{Linked, slot_live}
 use Rattle.tree_steps.specs.Commit.{Work, enter_index, new_place, new_hit_bounds, rework, rework_all, begun, visits_of, work_for, commit_tree}
 use Rattle.plan.specs.Plan.{Plan}

@@ -24,7 +24,7 @@ use Rattle.index_entries.specs.declared.reads.Mark.{Mark}
 use Rattle.index_entries.specs.declared.reads.Mark.TheVariants as is
 use Rattle.index_entries.specs.Entries.{stands, queue_with, length_with, slot_for, used_for, unmarked, updated_mark}
 use Rattle.index_entries.proofs.Keep.{queue_stays, queue_grows, queue_room, queue_of}
-use Rattle.index_state.specs.declared.Index.{Index}
+use Rattle.index_types.specs.declared.Index.{Index}
 use Rattle.index_state.specs.Index.{slot_of, generation_of, insert_of, update_of, mark_at}
 use Rattle.tree_state.specs.declared.Keys.{Keys}
 use Rattle.tree_state.specs.declared.Tree.{Tree}

@@ -11,7 +11,7 @@ use Rattle.link_forest.specs.Forest.{Forest, has, above}
 use Rattle.index_state.specs.Index.{slot_of}
 use Rattle.tree_state.specs.declared.Tree.{Tree}
 use Rattle.tree_state.specs.Tree.{local_at, committed_at, key_at, stored_place, stored_bounds, stored_hit_bounds}
-use Rattle.tree_laws.specs.Whole.{WholeWorlds}
+use Rattle.tree_state.specs.Whole.{WholeWorlds}
 use Rattle.tree_laws.proofs.Ground.{Linked, low, slot_live}
 use Rattle.tree_steps.specs.Commit.{Work, handed_down, new_place, new_hit_bounds, rework}
 use Rattle.agreement.specs.Afresh.{Alike}

@@ -1,4 +1,6 @@
 -- The other calls keep that each committed live node's entry has its stored hit box, or one equal as numbers: none of them writes either.
+use Rattle.index_types.specs.declared.NodeId.{NodeId}
+use Rattle.std.specs.Prelude.{Option}
 use mathlib.Core.Path.{◌≡◌, refl, sym, ◌∙◌}
 use mathlib.Core.Bool.{Bool, true, false}
 use mathlib.Core.List.{List, [], ◌∷◌}
@@ -17,13 +19,12 @@ use Rattle.geometry_clips.specs.declared.clip.Clip.{Clip}
 use Rattle.geometry_clips.specs.Clips.{constructed, clip_eq}
 use Rattle.tree_types.specs.declared.NodeFlags.{NodeFlags}
 use Rattle.tree_types.specs.declared.LocalNode.{LocalNode}
-use Rattle.tree_types.specs.declared.OptionNodeId.{OptionNodeId}
 use Rattle.tree_types.specs.Local.{empty_rect}
 use Rattle.node_tables.specs.Tables.{rect_at, insets_at, affine_at}
 use Rattle.node_tables.proofs.Laws.{rect_other}
 use Rattle.link_forest.specs.Forest.{Forest, none, has}
 use Rattle.link_forest.proofs.Bools.{never}
-use Rattle.index_state.specs.declared.Index.{Index}
+use Rattle.index_types.specs.declared.Index.{Index}
 use Rattle.tree_state.specs.declared.Tree.{Tree}
 use Rattle.tree_state.specs.Tree.{fresh_tree, clip_of, committed_at, key_at}
 use Rattle.tree_steps.specs.Setters.{with_locals, unless, store_transform, store_clip, store_bounds, store_slop, mark_transform, mark_clip, mark_alone, set_transform, set_clip, set_bounds, set_slop, set_level, set_flags}
@@ -70,11 +71,11 @@ module _ (t : Tree) (f : Forest) (E : Entered t f) (x : ℕ) where
 
 -- ---- structure: g has no node that f has not, but a new one
 module _ (t : Tree) (f g : Forest) (E : Entered t f) where
-  pub entered_reparent : (x : ℕ) (parent : OptionNodeId) → ((y : ℕ) → has y g ≡ true → has y f ≡ true) → Entered (reparent_tree t x parent) g
+  pub entered_reparent : (x : ℕ) (parent : Option NodeId) → ((y : ℕ) → has y g ≡ true → has y f ≡ true) → Entered (reparent_tree t x parent) g
   unfolding reparent_tree
   entered_reparent x parent s y h c = E y (s y h) c
 
-  pub entered_insert : (parent : OptionNodeId) (v : LocalNode) → ((y : ℕ) → has y g ≡ true → (y ≡ slot_of t.slots → ⊥) → has y f ≡ true) → Entered (insert_tree t parent v) g
+  pub entered_insert : (parent : Option NodeId) (v : LocalNode) → ((y : ℕ) → has y g ≡ true → (y ≡ slot_of t.slots → ⊥) → has y f ≡ true) → Entered (insert_tree t parent v) g
   unfolding insert_tree
   entered_insert parent v s y h c =
       rw (rect_other t.worlds.hit_bounds (slot_of t.slots) empty_rect y new)

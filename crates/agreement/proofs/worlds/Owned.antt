@@ -27,7 +27,7 @@ use Rattle.index_entries.proofs.Keep.{Kind, plain, new, moved, gone, kind}
 use Rattle.index_commit.specs.Commit as commit
 use Rattle.index_commit.specs.Commit.{act_of, mark_step, work, work_step}
 use Rattle.index_commit.proofs.Keep.{other}
-use Rattle.index_state.specs.declared.Index.{Index}
+use Rattle.index_types.specs.declared.Index.{Index}
 use Rattle.index_state.specs.Index.{slot_of, generation_of, insert_of, update_of, mark_at}
 use Rattle.tree_state.specs.declared.Keys.{Keys}
 use Rattle.tree_state.specs.declared.Tree.{Tree}

@@ -25,7 +25,7 @@ use Rattle.index_state.specs.Index.{slot_of}
 use Rattle.tree_state.specs.declared.Tree.{Tree}
 use Rattle.tree_state.specs.Tree.{is_live, live_slots, committed_at, key_at, entry_mark, is_removed, stored_hit_bounds}
 use Rattle.tree_state.specs.Sound.{SoundTree, count_of, count_below}
-use Rattle.tree_laws.specs.Whole.{Whole}
+use Rattle.tree_state.specs.Whole.{Whole}
 use Rattle.tree_laws.proofs.Ground.{Linked, live_has, slot_live}
 use Rattle.tree_steps.specs.Commit.{Work, enter_index, new_place, new_hit_bounds, rework}
 use Rattle.geometry.specs.Rectangle.{rect_eq}

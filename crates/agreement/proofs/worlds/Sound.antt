@@ -16,13 +16,13 @@ use Rattle.index_sound.specs.Sound.{SoundOf}
 use Rattle.index_sound.proofs.Exact.{worded}
 use Rattle.index_commit.specs.Commit.{start}
 use Rattle.index_commit.proofs.Keep.{unmarked, keep_commit, commit_whole}
-use Rattle.index_state.specs.declared.Index.{Index}
+use Rattle.index_types.specs.declared.Index.{Index}
 use Rattle.index_state.specs.Index.{work_of, commit_of}
 use Rattle.index_state.proofs.Soundness.{Counts}
 use Rattle.tree_state.specs.declared.Tree.{Tree}
 use Rattle.tree_state.specs.Tree.{live_slots, local_at, marked_at, transform_changed_at, clip_changed_at, committed_at, key_at, entry_mark, is_removed, needs_commit}
 use Rattle.tree_state.specs.Sound.{SoundTree, Owns, Live, count_of, count_below, removed_entries}
-use Rattle.tree_laws.specs.Whole.{WholeIndex}
+use Rattle.tree_state.specs.Whole.{WholeIndex}
 use Rattle.tree_laws.proofs.Ground.{live_has}
 use Rattle.tree_steps.specs.Commit.{begun, visits_of, finished, work_for, commit_tree}
 use Rattle.plan.specs.Plan.{Plan}

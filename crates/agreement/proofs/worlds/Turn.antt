@@ -10,7 +10,7 @@ use Rattle.node_tables.specs.Tables.{is_there}
 use Rattle.node_tables.proofs.Laws.{rect_same, rect_other, rect_length, affine_same, affine_other, affine_length, clip_rect_same, clip_rect_other, clip_rect_length}
 use Rattle.tree_state.specs.declared.Tree.{Tree}
 use Rattle.tree_state.specs.Tree.{stored_place, stored_bounds, stored_hit_bounds}
-use Rattle.tree_laws.specs.Whole.{WholeWorlds}
+use Rattle.tree_state.specs.Whole.{WholeWorlds}
 use Rattle.tree_steps.specs.Commit.{new_bounds, new_hit_bounds, reworked}
 
 -- what is stored at x

@@ -2,7 +2,7 @@
 use mathlib.Core.Path.{◌≡◌, ap}
 use mathlib.Core.Bool.{Bool, true}
 use lib.Ieee.{Float, eq}
-use Rattle.numbers.proofs.Bools.{four}
+use Rattle.numbers.proofs.Bools.{four_chained}
 use Rattle.numbers.proofs.Order.{le_alike, le_alike_right}
 use Rattle.index_types.specs.declared.Aabb2D.{Aabb2D}
 use Rattle.index_types.specs.Boxes.{contains_point, overlaps, aabb_eq}
@@ -12,7 +12,7 @@ module _ (a b : Aabb2D) where
   contains_equal : aabb_eq a b ≡ true → (x y : Float) → contains_point a x y ≡ contains_point b x y
   unfolding aabb_eq contains_point
   contains_equal h x y =
-      let F = four (eq a.min_x b.min_x) (eq a.min_y b.min_y) (eq a.max_x b.max_x) (eq a.max_y b.max_y) h in
+      let F = four_chained (eq a.min_x b.min_x) (eq a.min_y b.min_y) (eq a.max_x b.max_x) (eq a.max_y b.max_y) h in
       rw (
         le_alike a.min_x b.min_x x F.first,
         le_alike a.min_y b.min_y y F.second,
@@ -23,7 +23,7 @@ module _ (a b : Aabb2D) where
   overlaps_equal : aabb_eq a b ≡ true → (c : Aabb2D) → overlaps a c ≡ overlaps b c
   unfolding aabb_eq overlaps
   overlaps_equal h c =
-      let F = four (eq a.min_x b.min_x) (eq a.min_y b.min_y) (eq a.max_x b.max_x) (eq a.max_y b.max_y) h in
+      let F = four_chained (eq a.min_x b.min_x) (eq a.min_y b.min_y) (eq a.max_x b.max_x) (eq a.max_y b.max_y) h in
       rw (
         le_alike a.min_x b.min_x c.max_x F.first,
         le_alike a.min_y b.min_y c.max_y F.second,

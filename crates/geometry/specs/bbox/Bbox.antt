@@ -1,4 +1,4 @@
--- The axis-aligned box of a rectangle's image (document 01, module 1).
+-- The axis-aligned box of a rectangle's image.
 use Rattle.geometry.specs.declared.rect.Rect.{Rect}
 use Rattle.geometry.specs.declared.affine.Affine.{Affine}
 use Rattle.numbers.specs.Rounded.{◌⊕◌, ◌⊗◌}

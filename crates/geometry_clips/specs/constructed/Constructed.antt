@@ -1,4 +1,4 @@
--- "Clips are as constructed" (document 01, "Sound tree"): the constructor leaves the clip as it is, to the bit.
+-- "Clips are as constructed": the constructor leaves the clip as it is, to the bit.
 use Rattle.std.specs.Prelude.{Bool, true, not, ◌&&◌}
 use Rattle.std.specs.Float.Ieee.{eq}
 use Rattle.numbers.specs.Rounded.{zero}

@@ -1,4 +1,4 @@
--- A rectangle with four radii (document 01, module 2): a point inside, and equality to the bit.
+-- A rectangle with four radii: a point inside, and equality to the bit.
 use Rattle.std.specs.Prelude.{Bool, ◌&&◌, Float}
 use Rattle.std.specs.Float.Ieee.{le}
 use Rattle.geometry.specs.declared.point.Point.{Point}

@@ -1,4 +1,4 @@
--- The four radii of a rounded rectangle (document 01, module 2), in the order top left, top right, bottom right, bottom left.
+-- The four radii of a rounded rectangle, in the order top left, top right, bottom right, bottom left.
 use Rattle.std.specs.Prelude.{Bool, ◌&&◌, ◌||◌, cond, Float}
 use Rattle.std.specs.Float.Ieee.{is_nan, lt, eq}
 use Rattle.geometry.specs.declared.rect.Rect.{Rect}
@@ -19,12 +19,11 @@ each f r = radii (f r.top_left) (f r.top_right) (f r.bottom_right) (f r.bottom_l
 
 -- the same true of all four
 abbrev pub all : (Float → Bool) → RoundedRectRadii → Bool
-all p r = p r.top_left && p r.top_right && (p r.bottom_right && p r.bottom_left)
+all p r = p r.top_left && (p r.top_right && (p r.bottom_right && p r.bottom_left))
 
 abbrev pub radii_eq : RoundedRectRadii → RoundedRectRadii → Bool
 radii_eq r s =
-    eq r.top_left s.top_left && eq r.top_right s.top_right
-    && (eq r.bottom_right s.bottom_right && eq r.bottom_left s.bottom_left)
+    eq r.top_left s.top_left && (eq r.top_right s.top_right && (eq r.bottom_right s.bottom_right && eq r.bottom_left s.bottom_left))
 
 -- ---- the constructor: radii made non-negative, each capped at half the shorter side
 

@@ -1,26 +1,18 @@
--- The queue of dirty slots.
-use Rattle.std.proofs.Common.{◌≡◌, ℕ, ◌+◌, ◌<◌, Bool, true, false, ◌||◌, eqb, ltb, List, length, get_or, take, sym, refl, arith, lt-ltb, eq-eqb, ne_eqb}
+-- The queue of dirty slots: a search through it finds what stands there.
+use Rattle.std.proofs.Common.{◌≡◌, ℕ, ◌+◌, eqb, ltb, List, [], ◌∷◌, refl, sym, arith, lt-ltb, eq-eqb, ne_eqb}
 use native.Mathlib.Decide.{ℕ_discrete}
+use Rattle.std.specs.List.{list_any}
 use Rattle.counting.specs.Times.{times}
-use Rattle.counting.proofs.Counting.{hit, miss, times_next}
-use Rattle.index_entries.specs.slots.Slots.{stands}
+use Rattle.counting.proofs.Counting.{miss}
 
--- one more place is looked at
-pub stands_next : (x : ℕ) (l : List ℕ) (i : ℕ) → i < length l → stands x l (i + 1) ≡ stands x l i || eqb (get_or l i 0) x
-stands_next x l i h =
-    rw (times_next x l i h)
-    (elim (ℕ_discrete x (get_or l i 0)) [
-      | yes e ↦ rw (← e, hit x, eq-eqb x x refl, lt-ltb 0 (times x (take i l) + 1) (omega arith)) (sym (or_true (ltb 0 (times x (take i l)))))
-      | no n ↦ rw (miss x (get_or l i 0) n, ne_eqb (get_or l i 0) x (λ e. n (sym e)), plus_zero (times x (take i l))) (sym (or_false (ltb 0 (times x (take i l)))))
-    ])
+pub search_finds : (x : ℕ) (l : List ℕ) → list_any (λ y. eqb y x) l ≡ ltb 0 (times x l)
+unfolding times
+search_finds x [] = refl
+search_finds x (y ∷ ys) =
+    elim (ℕ_discrete y x) [
+      | yes e ↦ rw (e, eq-eqb x x refl) (sym (lt-ltb 0 (1 + times x ys) (omega arith)))
+      | no n ↦ rw (ne_eqb y x n, search_finds x ys, miss x y (λ e. n (sym e))) (rw (zero_plus (times x ys)) refl)
+    ]
   where
-    plus_zero : (n : ℕ) → n + 0 ≡ n
-    plus_zero n = omega arith
-
-    or_true : (b : Bool) → b || true ≡ true
-    or_true true = refl
-    or_true false = refl
-
-    or_false : (b : Bool) → b || false ≡ b
-    or_false true = refl
-    or_false false = refl
+    zero_plus : (n : ℕ) → 0 + n ≡ n
+    zero_plus n = omega arith

@@ -1,34 +1,55 @@
 -- A turn of each loop, as a law of lists; what the test of the shape tells of a depth.
 use mathlib.Core.Path.{◌≡◌, refl, sym, ap, ◌∙◌}
 use mathlib.Core.Bool.{Bool, true, false, ◌&&◌, and-eq-true_iff}
-use mathlib.Core.List.{List, [], ◌∷◌, ◌++◌}
+use mathlib.Core.List.{List, [], ◌∷◌, reverse, reverse-append}
 use Prim.Native.Nat.{ℕ, zero, suc, ◌+◌, ◌-◌, ◌≤◌, ◌<◌}
 use native.Mathlib.Numerals.{add-one}
 use native.Mathlib.Omega.{arith}
-use borrow.Author.Tests.{le-leb, lt-leb, leb-true}
+use native.Mathlib.Decide.{dec_lt}
+use borrow.Author.Tests.{le-leb, lt-leb, leb-true, lt-ltb, le-ltb}
 use lib.Dec.{leb}
 use lib.ListN.{length, take, drop, get_or}
-use lib.Seq.{slice-cons, slice_empty, take-suc, length-take-le}
-use Rattle.link_forest.specs.Table.{last_above, depths_from}
-use Rattle.link_forest.proofs.Lists.{last_less, last_more, last_append}
+use lib.Seq.{slice-cons, slice_empty, take-suc}
+use Rattle.std.specs.Prelude.{Option, None, Some}
+use Rattle.link_forest.specs.Table.{less_deep, nearest, depths_from}
 
 -- ---- parent_at
-module _ (k a j : ℕ) (xs ds : List ℕ) (pos : 0 < j) (lx : j ≤ length xs) (ld : j ≤ length ds) where
-  last_above_lem : last_above k a (take j xs) (take j ds) ≡ last_above k (last_above k a (take (j - 1) xs) (take (j - 1) ds)) (get_or xs (j - 1) 0 ∷ []) (get_or ds (j - 1) 0 ∷ [])
-  last_above_lem =
+module _ (k j : ℕ) (xs ds : List ℕ) (pos : 0 < j) (lx : j ≤ length xs) (ld : j ≤ length ds) where
+  turned : (l : List ℕ) → j ≤ length l → reverse (take j l) ≡ get_or l (j - 1) 0 ∷ reverse (take (j - 1) l)
+  turned l h =
       let w : j ≡ suc (j - 1) = omega arith in
-      let l : length (take (j - 1) xs) ≡ length (take (j - 1) ds) = length-take-le (j - 1) xs (omega arith) ∙ sym (length-take-le (j - 1) ds (omega arith)) in
-      let u : take j xs ≡ take (j - 1) xs ++ (get_or xs (j - 1) 0 ∷ []) = ap (λ (m : ℕ). take m xs) w ∙ take-suc xs (j - 1) 0 (omega arith) in
-      let v : take j ds ≡ take (j - 1) ds ++ (get_or ds (j - 1) 0 ∷ []) = ap (λ (m : ℕ). take m ds) w ∙ take-suc ds (j - 1) 0 (omega arith) in
-      rw (u, v) (last_append k a (take (j - 1) xs) (take (j - 1) ds) (get_or xs (j - 1) 0 ∷ []) (get_or ds (j - 1) 0 ∷ []) l)
+      ap (λ (m : ℕ). reverse (take m l)) w ∙ ap reverse (take-suc l (j - 1) 0 (omega arith)) ∙ reverse-append (take (j - 1) l) (get_or l (j - 1) 0 ∷ [])
 
-  pub parent_stop : get_or ds (j - 1) 0 < k → last_above k a (take j xs) (take j ds) ≡ get_or xs (j - 1) 0
-  unfolding last_above
-  parent_stop h = last_above_lem ∙ last_less k (last_above k a (take (j - 1) xs) (take (j - 1) ds)) (get_or xs (j - 1) 0) (get_or ds (j - 1) 0) [] [] h
+  pub above_stop : get_or ds (j - 1) 0 < k → nearest (less_deep k (reverse (take j xs)) (reverse (take j ds))) ≡ Some (get_or xs (j - 1) 0)
+  unfolding less_deep
+  above_stop h = rw (turned xs lx, turned ds ld, less_deep, lt-ltb (get_or ds (j - 1) 0) k h) refl
 
-  pub parent_on : k ≤ get_or ds (j - 1) 0 → last_above k a (take j xs) (take j ds) ≡ last_above k a (take (j - 1) xs) (take (j - 1) ds)
-  unfolding last_above
-  parent_on h = last_above_lem ∙ last_more k (last_above k a (take (j - 1) xs) (take (j - 1) ds)) (get_or xs (j - 1) 0) (get_or ds (j - 1) 0) [] [] h
+  pub above_on : k ≤ get_or ds (j - 1) 0 → less_deep k (reverse (take j xs)) (reverse (take j ds)) ≡ less_deep k (reverse (take (j - 1) xs)) (reverse (take (j - 1) ds))
+  unfolding less_deep
+  above_on h = rw (turned xs lx, turned ds ld, less_deep, le-ltb (get_or ds (j - 1) 0) k h)
+
+pub above_none : (k j : ℕ) (xs ds : List ℕ) → j ≤ 0 → nearest (less_deep k (reverse (take j xs)) (reverse (take j ds))) ≡ None
+unfolding less_deep
+above_none k j xs ds h = let z : j ≡ 0 = omega arith in rw z refl
+
+low_some : (p q : ℕ) → Some p ≡ Some q → p < 256 → q < 256
+low_some p q e h = let f : p ≡ q = grind (arith, e) in omega arith
+
+no_some : (q : ℕ) → ◌≡◌ {A = Option ℕ} None (Some q) → ⊥
+no_some q e = grind (arith, e)
+
+-- the slot above is one of those before
+pub parent_low : (k j q : ℕ) (xs ds : List ℕ) → j ≤ length xs → j ≤ length ds → ((m : ℕ) → m < j → get_or xs m 0 < 256)
+    → nearest (less_deep k (reverse (take j xs)) (reverse (take j ds))) ≡ Some q → q < 256
+parent_low k zero q xs ds lx ld low h = absurd (no_some q (sym (above_none k 0 xs ds (omega arith)) ∙ h))
+parent_low k (suc j) q xs ds lx ld low h =
+    let e : suc j - 1 ≡ j = omega arith in
+    elim (dec_lt (get_or ds j 0) k) [
+      | yes l ↦ low_some (get_or xs j 0) q (sym (rw e at (above_stop k (suc j) xs ds (omega arith) lx ld (rw e l))) ∙ h) (low j (omega arith))
+      | no g ↦
+          let on = rw e at (above_on k (suc j) xs ds (omega arith) lx ld (rw e (omega arith))) in
+          parent_low k j q xs ds (omega arith) (omega arith) (λ m l. low m (omega arith)) (sym (ap nearest on) ∙ h)
+    ]
 
 -- ---- depths_ok
 shape_cons : (b d : ℕ) (ds : List ℕ) (s j : Bool) → leb 1 d ≡ s → leb d (suc b) ≡ j → depths_from b (d ∷ ds) ≡ (s && j && depths_from d ds)
@@ -65,3 +86,16 @@ pub depth_small : (b : ℕ) (ds : List ℕ) → depths_from b ds ≡ true → (j
 depth_small b [] h j = omega arith
 depth_small b (d ∷ ds) h zero = omega (arith, shape_first b d ds h)
 depth_small b (d ∷ ds) h (suc j) = omega (arith, shape_first b d ds h, depth_small d ds (shape_first b d ds h).1 j)
+
+-- the first node is a root
+root_alone : (d : ℕ) (ds : List ℕ) → depths_from 0 (d ∷ ds) ≡ true → d ≡ 1
+unfolding depths_from
+root_alone d ds h =
+    let p = (and-eq-true_iff (leb 1 d && leb d (suc 0)) (depths_from d ds)).0 h in
+    let q = (and-eq-true_iff (leb 1 d) (leb d (suc 0))).0 p.0 in
+    omega (arith, leb-true 1 d q.0, leb-true d (suc 0) q.1)
+
+pub root_first : (n : ℕ) (ds : List ℕ) → depths_from 0 (take n ds) ≡ true → 0 < n → n ≤ length ds → get_or ds 0 0 ≡ 1
+root_first zero ds h k l = absurd (omega arith)
+root_first (suc n) [] h k l = absurd (omega arith)
+root_first (suc n) (d ∷ ds) h k l = root_alone d (take n ds) h

@@ -1,59 +1,60 @@
--- The lines of taps one behind another, and how long they are. Assumes nothing.
-use Prim.Native.Nat.{ℕ, suc, ◌+◌, ◌≤◌, ◌<◌}
-use mathlib.Core.Path.{◌≡◌, refl, sym, ap, ◌∙◌}
+-- The lines of taps one behind another. Assumes nothing.
+use Prim.Native.Nat.{ℕ, suc, ◌+◌, ◌*◌, ◌≤◌, ◌<◌}
+use mathlib.Core.Path.{◌≡◌, sym, refl, ap, ◌∙◌, subst}
 use mathlib.Core.List.{List, [], ◌∷◌, ◌++◌, append_assoc, append-nil}
 use native.Mathlib.Omega.{arith}
 use native.Mathlib.Numerals.{add-one}
-use lib.IntN.{ℤ}
-use lib.ListN.{length, take, length-append}
-use lib.Seq.{take-suc, take-length, length-take-le}
-use Rattle.sheet_format.specs.Sheet.{tap_width}
+use lib.ListN.{length, take, get_or, length-append}
+use lib.Seq.{take-suc, length-take-le}
 use Rattle.tree_state.specs.declared.Tree.{Tree}
-use Rattle.sheet_format.specs.Told.{rows_of, row_at}
-use Rattle.sheet_calls.specs.Answers.{decimal, line_of}
-use Rattle.sheet_format.proofs.Tables.{rows_length, row_at_lem}
-use Rattle.sheet_answers.proofs.text.Digits.{short}
-use Rattle.sheet_answers.specs.tap_lines.Lines.{tap_line, tap_text}
+use Rattle.sheet_format.specs.declared.TapLine.{TapLine}
+use Rattle.sheet_calls.specs.Answers.{line_of}
+use Rattle.sheet_answers.specs.declared.taps.Answered.{Answered}
+use Rattle.sheet_answers.specs.taps.Taps.{answered}
+use Rattle.sheet_answers.specs.text.Text.{Stored}
+use Rattle.sheet_answers.specs.tap_lines.Lines.{found, tap_line, tap_text}
+use Rattle.sheet_answers.proofs.text.Digits.{then_stored}
 
--- ---- lengths
-
-pub short_mark : (n b : ℕ) → n < 10000 → length (decimal n ++ b ∷ []) ≤ 5
-short_mark n b h = let e : length (decimal n ++ b ∷ []) ≡ length (decimal n) + 1 = length-append (decimal n) (b ∷ []) in omega (arith, e, short n h)
-
-pub short_line : (n m k : ℕ) → n < 10000 → m < 10000 → k < 10000 → length (line_of (n ∷ m ∷ k ∷ [])) ≤ 15
-unfolding line_of
-short_line n m k a b c =
-    let last = decimal k ++ 10 ∷ [] in
-    let two = decimal m ++ 32 ∷ last in
-    let e : length (decimal n ++ 32 ∷ two) ≡ length (decimal n) + suc (length two) = length-append (decimal n) (32 ∷ two) in
-    let f : length two ≡ length (decimal m) + suc (length last) = length-append (decimal m) (32 ∷ last) in
-    omega (arith, e, f, short n a, short m b, short_mark k 10 c)
-
--- ---- one line more
-
-pub text_more : (t : Tree) (k : ℕ) (rows : List (List ℤ)) (zs : List ℤ) → tap_text t k (rows ++ zs ∷ []) ≡ tap_text t k rows ++ tap_line t (k + length rows) zs
+text_more : (t : Tree) (k : ℕ) (taps : List TapLine) (p : TapLine) → tap_text t k (taps ++ p ∷ []) ≡ tap_text t k taps ++ tap_line t (k + length taps) p
 unfolding tap_text
-text_more t k [] zs = append-nil (tap_line t k zs) ∙ ap (λ (n : ℕ). tap_line t n zs) (let e : k ≡ k + 0 = omega arith in e)
-text_more t k (row ∷ rows) zs =
-    let e : suc k + length rows ≡ k + suc (length rows) = omega arith in
-    ap (λ (l : List ℕ). tap_line t k row ++ l) (text_more t (suc k) rows zs ∙ ap (λ (n : ℕ). tap_text t (suc k) rows ++ tap_line t n zs) e)
-    ∙ sym (append_assoc (tap_line t k row) (tap_text t (suc k) rows) (tap_line t (k + suc (length rows)) zs))
+text_more t k [] p = append-nil (tap_line t k p) ∙ ap (λ (n : ℕ). tap_line t n p) (let e : k ≡ k + 0 = omega arith in e)
+text_more t k (q ∷ taps) p =
+    let e : suc k + length taps ≡ k + suc (length taps) = omega arith in
+    ap (λ (l : List ℕ). tap_line t k q ++ l) (text_more t (suc k) taps p ∙ ap (λ (n : ℕ). tap_text t (suc k) taps ++ tap_line t n p) e)
+    ∙ sym (append_assoc (tap_line t k q) (tap_text t (suc k) taps) (tap_line t (k + suc (length taps)) p))
 
--- the first i rows of a table, and one more
-module _ (t : Tree) (taps : List ℤ) (n i : ℕ) (h : i < n) where
-  pub next_text : tap_text t 1 (take (i + 1) (rows_of tap_width n taps)) ≡ tap_text t 1 (take i (rows_of tap_width n taps)) ++ tap_line t (i + 1) (row_at tap_width i taps)
-  next_text =
-      let rows = rows_of tap_width n taps in
-      let l : i < length rows = omega (arith, rows_length tap_width n taps) in
-      let e : 1 + length (take i rows) ≡ i + 1 = omega (arith, length-take-le i rows (omega arith)) in
-      ap (λ (k : ℕ). tap_text t 1 (take k rows)) (add-one i)
-      ∙ ap (tap_text t 1) (take-suc rows i [] l ∙ ap (λ (r : List ℤ). take i rows ++ r ∷ []) (row_at_lem tap_width n i taps h))
-      ∙ text_more t 1 (take i rows) (row_at tap_width i taps)
-      ∙ ap (λ (k : ℕ). tap_text t 1 (take i rows) ++ tap_line t k (row_at tap_width i taps)) e
+-- of the first i taps, and one more
+pub next_text : (t : Tree) (taps : List TapLine) (i : ℕ) (d : TapLine) → i < length taps
+    → tap_text t 1 (take (i + 1) taps) ≡ tap_text t 1 (take i taps) ++ tap_line t (i + 1) (get_or taps i d)
+next_text t taps i d h =
+    let e : 1 + length (take i taps) ≡ i + 1 = omega (arith, length-take-le i taps (omega arith)) in
+    ap (λ (k : ℕ). tap_text t 1 (take k taps)) (add-one i)
+    ∙ ap (tap_text t 1) (take-suc taps i d h)
+    ∙ text_more t 1 (take i taps) (get_or taps i d)
+    ∙ ap (λ (k : ℕ). tap_text t 1 (take i taps) ++ tap_line t k (get_or taps i d)) e
 
-pub all_text : (t : Tree) (taps : List ℤ) (n : ℕ) → tap_text t 1 (take n (rows_of tap_width n taps)) ≡ tap_text t 1 (rows_of tap_width n taps)
-all_text t taps n = ap (λ (k : ℕ). tap_text t 1 (take k (rows_of tap_width n taps))) (sym (rows_length tap_width n taps)) ∙ ap (tap_text t 1) (take-length (rows_of tap_width n taps))
-
-pub no_text : (t : Tree) (rows : List (List ℤ)) → tap_text t 1 (take 0 rows) ≡ []
+pub no_text : (t : Tree) (taps : List TapLine) → tap_text t 1 (take 0 taps) ≡ []
 unfolding tap_text
-no_text t rows = refl
+no_text t taps = refl
+
+-- a line more is stored
+module _ (t : Tree) (taps : List TapLine) (i : ℕ) (d : TapLine) (h : i < length taps) where
+  abbrev before : List ℕ
+  before = tap_text t 1 (take i taps)
+
+  abbrev after : List ℕ
+  after = tap_text t 1 (take (i + 1) taps)
+
+  pub one_more : (old room new : List ℕ) (at next end : ℕ) (a : Answered) → a ≡ answered (found t (get_or taps i d)) → length before ≤ 15 * i
+      → Stored old room at next before → length (line_of ((i + 1) ∷ a.place ∷ a.depth ∷ [])) ≤ 15 → Stored room new next end (line_of ((i + 1) ∷ a.place ∷ a.depth ∷ []))
+      → (length after ≤ 15 * (i + 1)) × Stored old new at end after
+  one_more old room new at next end a e short S brief T =
+      let said = λ (x : Answered). line_of ((i + 1) ∷ x.place ∷ x.depth ∷ []) in
+      let line = tap_line t (i + 1) (get_or taps i d) in
+      let same : said a ≡ line = ap said e in
+      let all : after ≡ before ++ line = next_text t taps i d h in
+      let b : length (before ++ line) ≡ length before + length line = length-append before line in (
+        omega (arith, ap length all, b, ap length same, brief, short),
+        subst (Stored old new at end) (sym all)
+            (then_stored old room new at next end before line S (subst (Stored room new next end) same T)),
+      )

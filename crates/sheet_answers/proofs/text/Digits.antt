@@ -6,12 +6,13 @@ use mathlib.Core.List.{List, [], ◌∷◌, ◌++◌, append_assoc, append-nil}
 use native.Mathlib.Nat.{mod-eq_of_lt, pow-suc, one-le-pow}
 use native.Mathlib.Omega.{arith}
 use lib.Dec.{ltb}
-use lib.ListN.{length, take, drop, set, length-append, length-drop, drop_of_length-le}
+use lib.ListN.{length, take, drop, set, get_or, length-append, length-drop, drop_of_length-le}
 use lib.Seq.{sets, sets-eq, length-sets, take-length, drop-drop}
 use borrow.Author.Tests.{lt-ltb, le-ltb, ltb-true, ltb-false}
+use Rattle.std.specs.Prelude.{All}
 use Rattle.io.specs.Digits.{hex_digit_ascii, last_digits, IsDigitCount}
 use Rattle.sheet_calls.specs.Answers.{digits_up_to, decimal, line_of}
-use Rattle.sheet_answers.specs.text.Text.{Stored, marked}
+use Rattle.sheet_answers.specs.text.Text.{Stored, marked, spaced}
 
 abbrev last_digit : ℕ → List ℕ
 last_digit n = (48 + n % 10) ∷ []
@@ -123,10 +124,72 @@ module _ (old : List ℕ) (at : ℕ) where
 
 -- ---- lines
 
-pub line_one : (n : ℕ) → marked n 10 ≡ line_of (n ∷ [])
-unfolding line_of
-line_one n = refl
+pub short_mark : (n b : ℕ) → n < 10000 → length (marked n b) ≤ 5
+short_mark n b h = let e : length (marked n b) ≡ length (decimal n) + 1 = length-append (decimal n) (b ∷ []) in omega (arith, e, short n h)
 
-pub line_more : (n m : ℕ) (ns : List ℕ) → marked n 32 ++ line_of (m ∷ ns) ≡ line_of (n ∷ m ∷ ns)
+pub none_spaced : (ns : List ℕ) → spaced (take 0 ns) ≡ []
+unfolding spaced
+none_spaced ns = refl
+
+pub one_spaced : (ns : List ℕ) (i d : ℕ) → i < length ns → spaced (take (suc i) ns) ≡ spaced (take i ns) ++ marked (get_or ns i d) 32
+unfolding spaced
+one_spaced [] i d h = absurd (omega arith)
+one_spaced (n ∷ ns) zero d h = append-nil (marked n 32)
+one_spaced (n ∷ ns) (suc i) d h =
+    ap (λ (l : List ℕ). marked n 32 ++ l) (one_spaced ns i d (omega arith)) ∙ sym (append_assoc (marked n 32) (spaced (take i ns)) (marked (get_or ns i d) 32))
+
+-- a byte behind the last number ends the line
+pub line_ends : (ns : List ℕ) (i d : ℕ) → suc i ≡ length ns → spaced (take i ns) ++ marked (get_or ns i d) 10 ≡ line_of ns
+unfolding spaced line_of
+line_ends [] i d h = absurd (omega arith)
+line_ends (n ∷ []) zero d h = refl
+line_ends (n ∷ []) (suc i) d h = absurd (omega arith)
+line_ends (n ∷ (m ∷ ns)) zero d h = absurd (omega arith)
+line_ends (n ∷ (m ∷ ns)) (suc i) d h =
+    append_assoc (marked n 32) (spaced (take i (m ∷ ns))) (marked (get_or (m ∷ ns) i d) 10)
+    ∙ ap (λ (l : List ℕ). marked n 32 ++ l) (line_ends (m ∷ ns) i d (omega arith))
+    ∙ append_assoc (decimal n) (32 ∷ []) (line_of (m ∷ ns))
+
+pub spaced_short : (ns : List ℕ) (i : ℕ) → All (λ (n : ℕ). n < 10000) ns → length (spaced (take i ns)) ≤ 5 * i
+unfolding spaced
+spaced_short ns zero h = omega arith
+spaced_short [] (suc i) h = omega arith
+spaced_short (n ∷ ns) (suc i) h =
+    let rest = spaced (take i ns) in
+    let e : length (marked n 32 ++ rest) ≡ length (marked n 32) + length rest = length-append (marked n 32) rest in
+    omega (arith, e, short_mark n 32 (h 0 n (omega arith)), spaced_short ns i (λ k d l. h (suc k) d (omega (arith, l))))
+
+-- a line of three numbers, and of one and two
+pub short_line : (n m k : ℕ) → n < 10000 → m < 10000 → k < 10000 → length (line_of (n ∷ m ∷ k ∷ [])) ≤ 15
 unfolding line_of
-line_more n m ns = append_assoc (decimal n) (32 ∷ []) (line_of (m ∷ ns))
+short_line n m k a b c =
+    let last = decimal k ++ 10 ∷ [] in
+    let two = decimal m ++ 32 ∷ last in
+    let e : length (decimal n ++ 32 ∷ two) ≡ length (decimal n) + suc (length two) = length-append (decimal n) (32 ∷ two) in
+    let f : length two ≡ length (decimal m) + suc (length last) = length-append (decimal m) (32 ∷ last) in
+    omega (arith, e, f, short n a, short m b, short_mark k 10 c)
+
+pub short_count : (n : ℕ) → n < 10000 → length (line_of (n ∷ [])) ≤ 5
+unfolding line_of
+short_count n h = short_mark n 10 h
+
+pub pair_short : (n m : ℕ) → n < 10000 → m < 10000 → length (line_of (n ∷ m ∷ [])) ≤ 10
+unfolding line_of
+pair_short n m a b =
+    let last = decimal m ++ 10 ∷ [] in
+    let e : length (decimal n ++ 32 ∷ last) ≡ length (decimal n) + suc (length last) = length-append (decimal n) (32 ∷ last) in
+    omega (arith, e, short n a, short_mark m 10 b)
+
+-- ---- small numbers
+
+pub all_one : (a : ℕ) → a < 10000 → All (λ (n : ℕ). n < 10000) (a ∷ [])
+all_one a x zero d h = x
+all_one a x (suc k) d h = absurd (omega arith)
+
+pub all_two : (a b : ℕ) → a < 10000 → b < 10000 → All (λ (n : ℕ). n < 10000) (a ∷ b ∷ [])
+all_two a b x y zero d h = x
+all_two a b x y (suc k) d h = all_one b y k d (omega arith)
+
+pub all_three : (a b c : ℕ) → a < 10000 → b < 10000 → c < 10000 → All (λ (n : ℕ). n < 10000) (a ∷ b ∷ c ∷ [])
+all_three a b c x y z zero d h = x
+all_three a b c x y z (suc k) d h = all_two b c y z k d (omega arith)

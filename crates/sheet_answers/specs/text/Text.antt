@@ -11,3 +11,8 @@ pub record Stored (old new : List ℕ) (at next : ℕ) (text : List ℕ) : Type 
 -- a number and the byte behind it
 abbrev pub marked : ℕ → ℕ → List ℕ
 marked n b = decimal n ++ b ∷ []
+
+-- numbers, a space behind each
+unfoldable pub spaced : List ℕ → List ℕ
+spaced [] = []
+spaced (n ∷ ns) = marked n 32 ++ spaced ns

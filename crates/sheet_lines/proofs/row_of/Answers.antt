@@ -1,39 +1,30 @@
-use mir.Syntax.{w64}
-use mir.Val.{SFits}
-use mir.ValLaws.{to_z-of_z}
-use borrow.Author.Rules.{rules}
-use Rattle.sheet_lines.proofs.Spaces.{not_read, is_read, short, done, bad_word, next, more}
+use Rattle.std.proofs.Common.{w64, SFits, to_z-of_z, rules}
+use Rattle.sheet_lines.proofs.Spaces.{short, done, bad_word, next, more}
 use Rattle.sheet_lines.proofs.row_of.Goals as goal
 
 pub returns-then-at-line : goal.returns-then-at-line
 returns-then-at-line c =
-    let l = c.loop-j in
-    rw c.no_row.ensures (short c.args.line.now c.args.width l.row l.at l.j c.requires l.invariant c.loop-j-test.true c.if-at-line.true)
+    let l = c.loop-j in short c.args.line.now c.args.width l.row l.at l.j c.requires l.invariant c.loop-j-test.true c.if-at-line.true
 
-pub returns-then-not-w : goal.returns-then-not-w
-returns-then-not-w c =
+pub returns-in_err-row : goal.returns-in_err-row
+returns-in_err-row c =
     let l = c.loop-j in
-    let w = c.number_of-w.result in
-    rw c.no_row-then-not-w.ensures
+    rw c.from_residual.ensures
     (bad_word c.args.line.now c.args.width l.row l.at l.j c.requires l.invariant c.if-at-line.false c.find-end.result c.find-end.ensures.value
-    (not_read w.good _ w.z c.if-not-w.true c.number_of-w.ensures))
+    c.in_err-row.ensures)
 
 pub loop-j-preserved : goal.loop-j-preserved
 loop-j-preserved c =
     let l = c.loop-j in
-    let w = c.number_of-w.result in
-    let f : SFits w64 w.z = search rules in
-    rw (to_z-of_z w64 w.z f)
-    (next c.args.line.now c.args.width l.row l.at l.j c.requires l.invariant c.if-at-line.false c.find-end.result c.find-end.ensures.value w.z
-    c.loop-j-test.true c.find-end.ensures.high (is_read w.good _ w.z c.if-not-w.false c.number_of-w.ensures))
+    let w = c.in_ok-row in
+    let f : SFits w64 w.field-0 = search rules in
+    rw (to_z-of_z f)
+    (next c.args.line.now c.args.width l.row l.at l.j c.requires l.invariant c.if-at-line.false c.find-end.result c.find-end.ensures.value w.field-0
+    c.loop-j-test.true c.find-end.ensures.high w.ensures)
 
 pub returns-then-at-line-2 : goal.returns-then-at-line-2
 returns-then-at-line-2 c =
-    let l = c.loop-j in
-    rw c.no_row-then-at-line-2.ensures
-    (more c.args.line.now c.args.width l.row l.at l.j c.requires l.invariant c.if-at-line-2.true c.loop-j-test.false)
+    let l = c.loop-j in more c.args.line.now c.args.width l.row l.at l.j c.requires l.invariant c.if-at-line-2.true c.loop-j-test.false
 
 pub returns : goal.returns
-returns c =
-    let l = c.loop-j in
-    done c.args.line.now c.args.width l.row l.at l.j c.requires l.invariant c.loop-j-test.false c.if-at-line-2.false
+returns c = let l = c.loop-j in done c.args.line.now c.args.width l.row l.at l.j c.requires l.invariant c.loop-j-test.false c.if-at-line-2.false

@@ -1,23 +1,20 @@
-use Rattle.std.proofs.Common.{sym, ◌∙◌, arith}
-use Rattle.sheet_lines.proofs.Caps.{next_digit, below_digit, above_digit, all_digits}
+use Rattle.std.proofs.Common.{◌∙◌, arith}
+use Rattle.sheet_lines.proofs.Caps.{next_digit, no_digit, all_digits}
 use Rattle.sheet_lines.proofs.spelt.Goals as goal
 
-pub returns-then-b-lt48 : goal.returns-then-b-lt48
-returns-then-b-lt48 c =
-    (omega arith, sym (below_digit c.args.s.now c.loop-i.n c.loop-i.i c.loop-i-test.true c.if-b-lt48.true) ∙ c.loop-i.invariant.2)
+pub returns-then-not-is_ascii_digit-clause-value : goal.returns-then-not-is_ascii_digit-clause-value
+returns-then-not-is_ascii_digit-clause-value c =
+    let L = c.loop-b in no_digit c.args.digits.now L.n L.b-index c.loop-b-test.true c.if-not-is_ascii_digit.ensures.cases ∙ L.invariant.value
 
-pub returns-then-b-gt57 : goal.returns-then-b-gt57
-returns-then-b-gt57 c =
-    (omega arith, sym (above_digit c.args.s.now c.loop-i.n c.loop-i.i c.loop-i-test.true c.if-b-gt57.true) ∙ c.loop-i.invariant.2)
+pub loop-b-preserved : goal.loop-b-preserved
+loop-b-preserved c =
+    let L = c.loop-b in
+    let d = c.if-not-is_ascii_digit.ensures.cases in
+    record {
+      capped = omega arith;
+      value = next_digit c.args.digits.now L.n L.b-index c.loop-b-test.true c.min-n.result d.0 d.1 (omega arith) ∙ L.invariant.value;
+    }
 
-pub loop-i-preserved : goal.loop-i-preserved
-loop-i-preserved c = (
-  omega arith,
-  omega arith,
-  next_digit c.args.s.now c.loop-i.n c.loop-i.i c.loop-i-test.true c.capped-n.result c.if-b-lt48.false c.if-b-gt57.false c.capped-n.ensures
-      ∙ c.loop-i.invariant.2,
-)
-
-pub returns : goal.returns
-returns c =
-    (c.loop-i.invariant.1, sym (all_digits c.args.s.now c.loop-i.n c.loop-i.i c.loop-i.invariant.1 c.loop-i-test.false) ∙ c.loop-i.invariant.2)
+pub returns-clause-value : goal.returns-clause-value
+returns-clause-value c =
+    let L = c.loop-b in all_digits c.args.digits.now L.n L.b-index L.invariant.capped c.loop-b-test.false ∙ L.invariant.value

@@ -1,31 +1,32 @@
--- What a good sheet in its tables gives each of its inserts. Assumes nothing.
-use Prim.Native.Nat.{ℕ, suc, ◌≤◌, ◌<◌}
-use mathlib.Core.Path.{◌≡◌, refl, sym, ap, ◌∙◌, subst}
+-- What a good sheet, as it was read, gives each of its inserts. Assumes nothing.
+use Rattle.std.specs.Prelude.{All}
+use Prim.Native.Nat.{ℕ, suc, ◌+◌, ◌≤◌, ◌<◌}
+use mathlib.Core.Path.{◌≡◌, refl, sym, ◌∙◌, subst}
 use mathlib.Core.Bool.{true, ◌&&◌}
-use mathlib.Core.List.{List, []}
+use mathlib.Core.List.{List, [], map}
 use native.Mathlib.Omega.{arith}
+use native.Mathlib.Numerals.{add-one}
 use lib.IntN.{ℤ, pos, negsuc, nat_abs}
 use lib.Signed.{le_z}
-use lib.ListN.{length, take}
+use lib.ListN.{length, take, get_or}
 use lib.Seq.{length-take-le}
 use borrow.Author.Tests.{leb-true}
+use Rattle.std.proofs.lemmas.List.{get_or-map, length-map}
 use Rattle.numbers.proofs.Bools.{clash, and_right}
 use Rattle.geometry_clips.specs.declared.clip.Clip.{Clip}
 use Rattle.tree_state.specs.declared.Tree.{Tree}
-use Rattle.tree_state.specs.declared.Verdict.TheVariants as is
-use Rattle.tree_steps.specs.Structure.{insert_verdict, insert_tree}
-use Rattle.tree_run.proofs.Verdicts.{verdict, accepted}
+use Rattle.tree_steps.specs.Structure.{insert_tree}
+use Rattle.tree_insert.specs.Insert.{Room}
 use Rattle.sheet_format.specs.declared.PlaceLine.{PlaceLine}
-use Rattle.sheet_format.specs.Sheet.{place_width, clip_width, place_of, clip_of, place_in_range, clip_in_range, parent_earlier, place_rule, clip_rule}
-use Rattle.sheet_calls.specs.Calls.{parent_at, local_of, clip_for, insert_of}
+use Rattle.sheet_format.specs.declared.ClipLine.{ClipLine}
+use Rattle.sheet_format.specs.declared.Parsed.{Parsed}
+use Rattle.sheet_format.specs.Sheet.{place_of, clip_of, place_in_range, clip_in_range, parent_earlier, place_rule, clip_rule}
+use Rattle.sheet_format.specs.Told.{place_numbers, clip_numbers, sheet_of}
+use Rattle.sheet_calls.specs.Calls.{parent_at, local_of, clip_for}
 use Rattle.sheet_calls.specs.Good.{Good, Fair}
 use Rattle.sheet_calls.proofs.Inserts.{passes_at}
-use Rattle.sheet_format.specs.Told.{rows_of, row_at}
 use Rattle.sheet_laws.specs.Built.{tree_up_to}
-use Rattle.sheet_laws.proofs.Tree.{insert_accepted, insert_next}
-use Rattle.sheet_format.proofs.Tables.{rows_length, row_at_lem}
-use Rattle.sheet_tree.specs.arguments.Clips.{ClipsRanged}
-use Rattle.sheet_tree.specs.places.Rows.{sheet_of}
+use Rattle.sheet_tree.proofs.places.Inserts.{room_up_to, one_more}
 
 -- a parent's number
 upward : (z : ℤ) (n : ℕ) → le_z (pos 0) z && le_z z (pos n) ≡ true → (z ≡ pos (nat_abs z)) × (nat_abs z ≤ n)
@@ -36,50 +37,67 @@ parent_told : (before : List (List ℤ)) (p : PlaceLine) → parent_earlier befo
 unfolding parent_earlier
 parent_told before p h = upward p.parent (length before) h
 
--- a place's line whose insert, with that clip, nothing refuses
-pub record Accepted (t : Tree) (p : PlaceLine) (c : Clip) : Type 0 where
-  pub ranged : place_in_range p ≡ true
-  pub upward : p.parent ≡ pos (nat_abs p.parent)
-  pub earlier : nat_abs p.parent ≤ 256
-  pub verdict : insert_verdict t (parent_at (nat_abs p.parent)) (local_of p c) ≡ is.Accepted
+module _ (s : Parsed) (g : Good (sheet_of s)) where
+  rows : List (List ℤ)
+  rows = map place_numbers s.places.items
 
-module _ (places : List ℤ) (n : ℕ) (clips : List ℤ) (m : ℕ) (g : Good (sheet_of places n clips m)) where
-  pub few_places : n ≤ 256
-  few_places = omega (arith, g.few_places, rows_length place_width n places)
+  abbrev pub clip_rows : List (List ℤ)
+  clip_rows = map clip_numbers s.clips.items
 
-  pub few_clips : m ≤ 256
-  few_clips = omega (arith, g.few_places, g.few_clips, rows_length place_width n places, rows_length clip_width m clips)
+  many : length rows ≡ length s.places.items
+  unfolding rows
+  many = length-map s.places.items place_numbers
 
-  pub clips_ranged : ClipsRanged clips m
-  clips_ranged i h =
-      let rows = rows_of clip_width m clips in
-      let f = passes_at (clip_rule (length (rows_of place_width n places))) [] rows g.clips i (omega (arith, rows_length clip_width m clips)) in
-      ap (λ (r : List ℤ). clip_in_range (clip_of r)) (sym (row_at_lem clip_width m i clips h)) ∙ f.ranged
+  pub few_places : length s.places.items ≤ 256
+  unfolding rows
+  few_places = omega (arith, g.few_places, many)
 
-  module _ (i : ℕ) (h : i < n) where
-    row : Fair place_rule (take i (rows_of place_width n places)) (row_at place_width i places)
-    row = subst (λ (r : List ℤ). Fair place_rule (take i (rows_of place_width n places)) r) (row_at_lem place_width n i places h) (passes_at place_rule [] (rows_of place_width n places) g.places i (omega (arith, rows_length place_width n places)))
+  pub clips_ranged : All (λ (c : ClipLine). clip_in_range c ≡ true) s.clips.items
+  unfolding rows clip_of
+  clips_ranged i d h =
+      let f = passes_at (clip_rule (length rows)) [] clip_rows g.clips i (omega (arith, h, length-map s.clips.items clip_numbers)) in
+      subst (λ (r : List ℤ). clip_in_range (clip_of r) ≡ true) (get_or-map clip_numbers s.clips.items i d [] h) f.ranged
 
-    low : i < length (rows_of place_width n places)
-    low = omega (arith, rows_length place_width n places)
+  module _ (i : ℕ) (h : i < length s.places.items) (d : PlaceLine) where
+    abbrev p : PlaceLine
+    p = get_or s.places.items i d
 
-    -- its insert is accepted
-    pub place_accepted : Accepted (tree_up_to (sheet_of places n clips m) i) (place_of (row_at place_width i places)) (clip_for (rows_of clip_width m clips) (suc i))
-    unfolding verdict insert_of
-    place_accepted =
-        let p = place_of (row_at place_width i places) in
-        let t = parent_told (take i (rows_of place_width n places)) p row.fitting in
-        let l : length (take i (rows_of place_width n places)) ≡ i = length-take-le i (rows_of place_width n places) (omega (arith, low)) in
-        record {
-          ranged = row.ranged;
-          upward = t.0;
-          earlier = omega (arith, t.1, l, few_places);
-          verdict = subst (λ (r : List ℤ). verdict (tree_up_to (sheet_of places n clips m) i) (insert_of (rows_of clip_width m clips) (suc i) (place_of r)) ≡ is.Accepted) (row_at_lem place_width n i places h) (insert_accepted (sheet_of places n clips m) g i low);
-        }
+    here : get_or rows i [] ≡ place_numbers p
+    unfolding rows
+    here = get_or-map place_numbers s.places.items i d [] h
 
-    -- and leaves the tree of one place more
-    pub place_next : insert_tree (tree_up_to (sheet_of places n clips m) i) (parent_at (nat_abs (place_of (row_at place_width i places)).parent)) (local_of (place_of (row_at place_width i places)) (clip_for (rows_of clip_width m clips) (suc i)))
-        ≡ tree_up_to (sheet_of places n clips m) (suc i)
-    unfolding accepted insert_of
-    place_next =
-        sym (subst (λ (r : List ℤ). tree_up_to (sheet_of places n clips m) (suc i) ≡ accepted (tree_up_to (sheet_of places n clips m) i) (insert_of (rows_of clip_width m clips) (suc i) (place_of r))) (row_at_lem place_width n i places h) (insert_next (sheet_of places n clips m) g i low))
+    low : i < length rows
+    low = omega (arith, h, many)
+
+    row : Fair place_rule (take i rows) (place_numbers p)
+    unfolding rows
+    row = subst (Fair place_rule (take i rows)) here (passes_at place_rule [] rows g.places i low)
+
+    pub place_ranged : place_in_range p ≡ true
+    unfolding place_of
+    place_ranged = row.ranged
+
+    told : (p.parent ≡ pos (nat_abs p.parent)) × (nat_abs p.parent ≤ length (take i rows))
+    unfolding place_of
+    told = parent_told (take i rows) p row.fitting
+
+    pub parent_whole : p.parent ≡ pos (nat_abs p.parent)
+    parent_whole = told.0
+
+    pub parent_low : nat_abs p.parent ≤ 256
+    parent_low = omega (arith, told.1, length-take-le i rows (omega (arith, low)), h, few_places)
+
+    -- there is room for it
+    pub place_room : (t : Tree) → t ≡ tree_up_to (sheet_of s) i → Room t (parent_at (nat_abs p.parent))
+    unfolding rows place_of
+    place_room t e =
+        rw e
+        (subst (λ (r : List ℤ). Room (tree_up_to (sheet_of s) i) (parent_at (nat_abs (place_of r).parent))) here (room_up_to (sheet_of s) g i low))
+
+    -- and it leaves the tree of one place more
+    pub place_next : (t u : Tree) (own : Clip) → t ≡ tree_up_to (sheet_of s) i → own ≡ clip_for clip_rows (i + 1)
+        → u ≡ insert_tree t (parent_at (nat_abs p.parent)) (local_of p own) → u ≡ tree_up_to (sheet_of s) (i + 1)
+    unfolding rows place_of
+    place_next t u own e f k =
+        let next = subst (λ (r : List ℤ). tree_up_to (sheet_of s) (suc i) ≡ insert_tree (tree_up_to (sheet_of s) i) (parent_at (nat_abs (place_of r).parent)) (local_of (place_of r) (clip_for clip_rows (suc i)))) here (one_more (sheet_of s) g i low) in
+        k ∙ rw (e, f, add-one i) (sym next)

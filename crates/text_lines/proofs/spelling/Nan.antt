@@ -7,7 +7,7 @@ use lib.Ieee.Compare.{nan_differs}
 pub clash : {A : Type 0} → true ≡ false → A
 clash h = let k : ◌≡◌ {A = ℕ} 0 1 = cc in absurd (omega arith)
 
-only_nan : (x : Float) → T (is_nan x) → x ≡ nan
+pub only_nan : (x : Float) → T (is_nan x) → x ≡ nan
 unfolding is_nan
 only_nan nan t = refl
 only_nan (inf s) t = absurd t

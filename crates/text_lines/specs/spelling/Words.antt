@@ -1,7 +1,5 @@
 -- Words of a line: names parted by spaces, and the 64 bits that 16 hexadecimal digits spell. A byte is its ASCII code.
-use Rattle.std.specs.Prelude.{ℕ, suc, ◌+◌, ◌-◌, ◌*◌, cond, ◌&&◌, List, [], ◌∷◌, length, ◌==◌, ◌≢◌, nat_le, nat_lt}
-use Rattle.text_lines.specs.declared.spelling.Word.{Word}
-use Rattle.text_lines.specs.declared.spelling.Word.TheVariants as is
+use Rattle.std.specs.Prelude.{ℕ, suc, ◌+◌, ◌-◌, ◌*◌, cond, ◌&&◌, List, [], ◌∷◌, length, ◌==◌, ◌≢◌, nat_le, nat_lt, Option, Some, None}
 
 -- a byte in front of the first name
 unfoldable pub on_first : ℕ → List (List ℕ) → List (List ℕ)
@@ -21,14 +19,18 @@ pub data Place (w : List ℕ) : List (List ℕ) → ℕ → Type 0 where
   later : {v : List ℕ} {ws : List (List ℕ)} {k : ℕ} → (v ≢ w) → Place w ws k → Place w (v ∷ ws) (suc k)
 
 -- a hexadecimal digit's value: `0` to `9` are 48 to 57, `a` to `f` are 97 to 102; 16 for every other byte
-unfoldable pub digit_value : ℕ → ℕ
+abbrev pub digit_value : ℕ → ℕ
 digit_value b = cond (nat_le 48 b && nat_le b 57) (b - 48) (cond (nat_le 97 b && nat_le b 102) (b - 97 + 10) 16)
 
+-- the value of a byte that is a digit
+abbrev pub digit : ℕ → Option ℕ
+digit b = cond (nat_lt (digit_value b) 16) (Some (digit_value b)) None
+
 -- the digits of s written after the number n, if all are digits
-unfoldable pub spelt : ℕ → List ℕ → Word
-spelt n [] = is.Bits n
-spelt n (b ∷ s) = cond (nat_lt (digit_value b) 16) (spelt (n * 16 + digit_value b) s) is.None
+unfoldable pub spelt : ℕ → List ℕ → Option ℕ
+spelt n [] = Some n
+spelt n (b ∷ s) = cond (nat_lt (digit_value b) 16) (spelt (n * 16 + digit_value b) s) None
 
 -- the bits of 16 digits, the highest first
-unfoldable pub pattern_of : List ℕ → Word
-pattern_of s = cond (length s == 16) (spelt 0 s) is.None
+unfoldable pub pattern_of : List ℕ → Option ℕ
+pattern_of s = cond (length s == 16) (spelt 0 s) None

@@ -1,37 +1,42 @@
--- The words of a line, one space apart and counted from 0, and the numbers that they spell. A byte is its ASCII code.
-use Rattle.std.specs.Prelude.{ℕ, zero, suc, ◌+◌, true, false, ◌&&◌, List, take, drop, from_bits}
-use Rattle.std.specs.Float.{binary64}
-use Rattle.byte_search.specs.Bytes.{index_of}
+-- The words of a line, one space apart, and the numbers that they spell. A byte is its ASCII code.
+use Rattle.std.specs.Prelude.{ℕ, List, [], ◌∷◌, ◌==◌, drop, from_bits, Option, Some, None}
+use Rattle.std.specs.Float.{binary64, Float}
+use Rattle.std.specs.List.{slice_split}
+use denote.Ref.{Bor}
 use Rattle.text_lines.specs.spelling.Words.{pattern_of}
-use Rattle.text_lines.specs.declared.spelling.Word.{Word}
-use Rattle.text_lines.specs.declared.spelling.Word.TheVariants as is
-use Rattle.text_lines.specs.declared.words.Number.{Number}
-use Rattle.text_lines.specs.declared.words.Four.{Four}
+use Rattle.text_lines.specs.declared.words.Words.{Words}
 
--- what a line has from its word k on
-unfoldable pub from : ℕ → List ℕ → List ℕ
-from zero s = s
-from (suc k) s = from k (drop (suc (index_of 32 s)) s)
+-- the words: each ends at a space, 32, or where the line ends
+abbrev pub words : List ℕ → List (List ℕ)
+words s = slice_split (λ b. b == 32) s
 
--- the word k; none is empty
-unfoldable pub word_at : ℕ → List ℕ → List ℕ
-word_at k s = take (index_of 32 (from k s)) (from k s)
+-- those of what is left of a line, if anything is
+abbrev pub words_of : Option (Bor (List ℕ)) → List (List ℕ)
+words_of None = []
+words_of (Some r) = words r.now
+
+-- those that are still to be read
+abbrev pub left : Words → List (List ℕ)
+left w = words_of w.rest
 
 -- the number of a pattern
-unfoldable pub number_of : Word → Number
-number_of (is.Bits w) = record { is_read = true; value = from_bits binary64 w }
-number_of is.None = record { is_read = false; value = from_bits binary64 0 }
+abbrev pub number_of : Option ℕ → Option Float
+number_of (Some w) = Some (from_bits binary64 w)
+number_of None = None
 
-abbrev pub number_at : ℕ → List ℕ → Number
-number_at k s = number_of (pattern_of (word_at k s))
+-- the number that the first of some words spells
+abbrev pub number : List (List ℕ) → Option Float
+number [] = None
+number (w ∷ ws) = number_of (pattern_of w)
 
--- four numbers from the word k on
-unfoldable pub four_at : ℕ → List ℕ → Four
-four_at k s =
-    record {
-      is_read = (number_at k s).is_read && (number_at (k + 1) s).is_read && ((number_at (k + 2) s).is_read && (number_at (k + 3) s).is_read);
-      x0 = (number_at k s).value;
-      y0 = (number_at (k + 1) s).value;
-      x1 = (number_at (k + 2) s).value;
-      y1 = (number_at (k + 3) s).value;
-    }
+-- all of four numbers, where each is there
+abbrev pub all_four : Option Float → Option Float → Option Float → Option Float → Option (List Float)
+all_four (Some a) (Some b) (Some c) (Some d) = Some (a ∷ b ∷ c ∷ d ∷ [])
+all_four (Some a) (Some b) (Some c) None = None
+all_four (Some a) (Some b) None d = None
+all_four (Some a) None c d = None
+all_four None b c d = None
+
+-- the numbers that the first four of some words spell
+unfoldable pub four : List (List ℕ) → Option (List Float)
+four ws = all_four (number ws) (number (drop 1 ws)) (number (drop 2 ws)) (number (drop 3 ws))

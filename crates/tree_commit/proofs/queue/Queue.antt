@@ -1,92 +1,99 @@
 -- The index's commit without rooms: what holds before each queued slot, and that one more slot keeps it.
-use Prim.Native.Nat.{ℕ, ◌+◌, ◌≤◌, ◌<◌}
-use mathlib.Core.Path.{◌≡◌, refl, ap, ◌∙◌}
-use mathlib.Core.List.{List}
+use Prim.Native.Nat.{ℕ, ◌+◌, ◌<◌}
+use mathlib.Core.Path.{◌≡◌, refl, sym, ap, ◌∙◌}
 use native.Mathlib.Omega.{arith}
 use lib.ListN.{length, take, get_or}
-use lib.Ieee.{Float}
-use Rattle.index_types.specs.flat_tables.Tables.{box_at}
-use Rattle.index_sound.specs.Sound.{CountOf}
-use Rattle.index_entries.specs.Entries.{previous_at}
-use Rattle.index_commit.specs.declared.Change.{Change}
-use Rattle.index_commit.specs.Commit.{Act, drops, act_of, mark_step, kept_step, free_step, present_step, boxes_step, change_of, Work, work_step, work, start}
+use Rattle.index_types.specs.declared.Index.{Index}
+use Rattle.index_sound.specs.Sound.{SoundOf, CountOf}
+use Rattle.index_sound.proofs.Exact.{counted}
+use Rattle.index_commit.specs.Commit.{Work, work_step, work, start, work_of, worked, commit_of, act_at, slot_committed, Commits}
 use Rattle.index_commit.proofs.Loop.{work_next, keep_slot, drop_room, slot_low, mark_length, free_length}
-use Rattle.tree_commit.specs.queue.Queue.{Left}
+use Rattle.tree_state.specs.Whole.{WholeIndex}
 
-pub record Inv (aabb prev : List Float) (dirty : List ℕ) (queued : ℕ) (w₀ : Work) (mark kept free present : List ℕ) (boxes : List Float) (f i : ℕ) : Type 0 where
-  pub i_fits : i ≤ queued
-  pub whole : length dirty ≡ 512
-  pub mark_whole : length mark ≡ 512
-  pub free_whole : length free ≡ 512
-  pub sound : (u : ℕ) × CountOf mark free f dirty queued u
-  pub state : Left (work aabb prev w₀ (take i dirty)) mark kept free present boxes f
+-- the work on the first i queued slots
+abbrev pub done : Index → ℕ → Work
+done ix i = work ix.aabb ix.prev (start ix.mark ix.kept ix.free ix.frees ix.backend.present ix.backend.boxes) (take i ix.dirty)
 
-pub begin : (aabb prev : List Float) (dirty : List ℕ) (queued : ℕ) (mark kept free present : List ℕ) (boxes : List Float) (f : ℕ)
-    → length dirty ≡ 512 → length mark ≡ 512 → length free ≡ 512 → (u : ℕ) × CountOf mark free f dirty queued u
-    → Inv aabb prev dirty queued (start mark kept free f present boxes) mark kept free present boxes f 0
+pub record Inv (ix now : Index) (i : ℕ) : Type 0 where
+  pub whole : length now.dirty ≡ 512
+  pub mark_whole : length now.mark ≡ 512
+  pub free_whole : length now.free ≡ 512
+  pub sound : CountOf now.mark now.free now.frees now.dirty now.queued now.used
+  pub state : now ≡ worked ix (done ix i) ix.queued
+
+pub begin : (ix : Index) → WholeIndex ix → SoundOf ix.mark ix.free ix.frees ix.dirty ix.queued ix.used → Inv ix ix 0
 unfolding work
-begin aabb prev dirty queued mark kept free present boxes f l lm lf C =
+begin ix W S =
     record {
-      i_fits = omega arith;
-      whole = l;
-      mark_whole = lm;
-      free_whole = lf;
-      sound = C;
-      state = record { mark_is = refl; kept_is = refl; free_is = refl; present_is = refl; boxes_is = refl; frees_is = refl };
+      whole = W.dirty;
+      mark_whole = W.mark;
+      free_whole = W.free;
+      sound = counted ix.mark ix.free ix.frees ix.dirty ix.queued ix.used W.mark W.free W.dirty S;
+      state = refl;
     }
 
-left_step : (aabb prev : List Float) (w : Work) (x : ℕ) (mark kept free present : List ℕ) (boxes : List Float) (f : ℕ) (ch : Change)
-    → Left w mark kept free present boxes f
-    → ch ≡ change_of (act_of (get_or mark x 0)) f (box_at aabb x) (previous_at kept prev x)
-    → (mark' kept' free' present' : List ℕ) (boxes' : List Float)
-    → mark' ≡ mark_step (act_of (get_or mark x 0)) mark x → kept' ≡ kept_step (act_of (get_or mark x 0)) kept x → free' ≡ free_step (act_of (get_or mark x 0)) free f x
-    → present' ≡ present_step (act_of (get_or mark x 0)) present x → boxes' ≡ boxes_step (act_of (get_or mark x 0)) boxes x (box_at aabb x)
-    → Left (work_step aabb prev w x) mark' kept' free' present' boxes' ch.frees
+step_is : (ix : Index) (w : Work) (x : ℕ) → slot_committed (worked ix w ix.queued) x ≡ worked ix (work_step ix.aabb ix.prev w x) ix.queued
 unfolding work_step
-left_step aabb prev w x mark kept free present boxes f ch L ec mark' kept' free' present' boxes' e1 e2 e3 e4 e5 =
-    let em = L.mark_is in
-    let ek = L.kept_is in
-    let eh : ch ≡ change_of (act_of (get_or w.mark x 0)) w.frees (box_at aabb x) (previous_at w.kept prev x) = cc L.frees_is in
+step_is ix w x = refl
+
+module _ {ix now : Index} {i : ℕ} (I : Inv ix now i) (h : i < now.queued) where
+  abbrev x : ℕ
+  x = get_or now.dirty i 0
+
+  x_low : x < 512
+  x_low = slot_low now.mark now.free now.frees now.dirty now.queued now.used i I.sound I.whole h
+
+  pub commits : Commits now x
+  commits =
+      record {
+        low = x_low;
+        free_room = drop_room now.mark now.free now.frees now.dirty now.queued now.used I.sound I.mark_whole I.free_whole I.whole x x_low;
+      }
+
+  i_low : i < 512
+  i_low = omega (arith, I.sound.queue_fits)
+
+  pub next : (after : Index) → after ≡ slot_committed now x → Inv ix after (i + 1)
+  next after is =
+      let act = act_at now x in
+      let e = I.state in
+      let long : i < length ix.dirty = omega (arith, ap (λ (k : Index). length k.dirty) e, I.whole, i_low) in
+      let on : done ix (i + 1) ≡ work_step ix.aabb ix.prev (done ix i) (get_or ix.dirty i 0) =
+      work_next ix.aabb ix.prev (start ix.mark ix.kept ix.free ix.frees ix.backend.present ix.backend.boxes) ix.dirty i long in
+      let here : x ≡ get_or ix.dirty i 0 = ap (λ (k : Index). get_or k.dirty i 0) e in
+      rw is
+      record {
+        whole = I.whole;
+        mark_whole = mark_length act now.mark x ∙ I.mark_whole;
+        free_whole = free_length act now.free now.frees x ∙ I.free_whole;
+        sound = keep_slot now.mark now.free now.frees now.dirty now.queued now.used I.sound I.mark_whole I.free_whole I.whole x x_low;
+        state =
+            ap (λ (k : Index). slot_committed k x) e ∙ ap (slot_committed (worked ix (done ix i) ix.queued)) here
+            ∙ step_is ix (done ix i) (get_or ix.dirty i 0) ∙ ap (λ (w : Work). worked ix w ix.queued) (sym on);
+      }
+
+-- the queue stays as long as it was
+pub same_queue : {ix now : Index} {i : ℕ} → Inv ix now i → now.queued ≡ ix.queued
+same_queue I = ap (λ (k : Index). k.queued) I.state
+
+-- with an empty queue
+abbrev emptied : Index → Index
+emptied ix =
     record {
-      mark_is = cc L.mark_is;
-      kept_is = cc L.kept_is;
-      free_is = cc (L.free_is, L.frees_is);
-      present_is = cc L.present_is;
-      boxes_is = cc L.boxes_is;
-      frees_is = ap (λ (c : Change). c.frees) eh;
+      generation = ix.generation;
+      mark = ix.mark;
+      payload = ix.payload;
+      aabb = ix.aabb;
+      kept = ix.kept;
+      prev = ix.prev;
+      used = ix.used;
+      free = ix.free;
+      frees = ix.frees;
+      dirty = ix.dirty;
+      queued = 0;
+      backend = ix.backend;
     }
 
-module _ (aabb prev : List Float) (dirty : List ℕ) (queued : ℕ) (w₀ : Work) (mark kept free present : List ℕ) (boxes : List Float) (f i : ℕ)
-    (I : Inv aabb prev dirty queued w₀ mark kept free present boxes f i) (h : i < queued) where
-  abbrev x : ℕ
-  x = get_or dirty i 0
-
-  abbrev act : Act
-  act = act_of (get_or mark x 0)
-
-  pub x_low : x < 512
-  x_low = slot_low mark free f dirty queued I.sound.0 i I.sound.1 I.whole h
-
-  pub x_room : act ≡ drops → f < 512
-  x_room = drop_room mark free f dirty queued I.sound.0 I.sound.1 I.mark_whole I.free_whole I.whole x x_low
-
-  pub i_low : i < 512
-  i_low = omega (arith, I.sound.1.queue_fits)
-
-  pub step : (ch : Change) (mark' kept' free' present' : List ℕ) (boxes' : List Float)
-      → mark' ≡ mark_step act mark x → kept' ≡ kept_step act kept x → free' ≡ free_step act free f x → present' ≡ present_step act present x → boxes' ≡ boxes_step act boxes x (box_at aabb x)
-      → ch ≡ change_of act f (box_at aabb x) (previous_at kept prev x)
-      → Inv aabb prev dirty queued w₀ mark' kept' free' present' boxes' ch.frees (i + 1)
-  step ch mark' kept' free' present' boxes' e1 e2 e3 e4 e5 ec =
-      let w = work aabb prev w₀ (take i dirty) in
-      let lq = I.whole in
-      let l = i_low in
-      let on : work aabb prev w₀ (take (i + 1) dirty) ≡ work_step aabb prev w x = work_next aabb prev w₀ dirty i (omega arith) in
-      record {
-        i_fits = omega arith;
-        whole = lq;
-        mark_whole = ap length e1 ∙ mark_length act mark x ∙ I.mark_whole;
-        free_whole = ap length e3 ∙ free_length act free f x ∙ I.free_whole;
-        sound = (I.sound.0, rw (e1, e3, ec) (keep_slot mark free f dirty queued I.sound.0 I.sound.1 I.mark_whole I.free_whole lq x x_low (box_at aabb x) (previous_at kept prev x)));
-        state = rw on (left_step aabb prev w x mark kept free present boxes f ch I.state ec mark' kept' free' present' boxes' e1 e2 e3 e4 e5);
-      }
+pub ended : {ix now : Index} → Inv ix now ix.queued → emptied now ≡ commit_of ix (work_of ix)
+unfolding work_of
+ended I = ap emptied I.state

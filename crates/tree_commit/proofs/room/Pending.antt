@@ -1,17 +1,16 @@
 -- The pending rectangles, copied number by number, stand in front of the room.
-use Prim.Native.Nat.{ℕ, zero, suc, ◌+◌, ◌*◌, ◌≤◌, ◌<◌}
+use Prim.Native.Nat.{ℕ, zero, suc, ◌+◌, ◌*◌, ◌≤◌}
 use mathlib.Core.Path.{◌≡◌, refl, sym, ap, ◌∙◌}
 use mathlib.Core.List.{List, [], ◌∷◌, ◌++◌}
 use native.Mathlib.Nat.{mul-suc}
-use native.Mathlib.Numerals.{add-one}
 use native.Mathlib.Omega.{arith}
-use lib.ListN.{length, get_or, set, take, drop, length-append, length-drop}
-use lib.Seq.{length-take-le, take-add, take-suc, drop-cons, set_at, append_snoc}
+use lib.ListN.{length, take, drop, length-drop}
+use lib.Seq.{length-take-le, take-add}
 use lib.Ieee.{Float}
 use Rattle.index_types.specs.flat_tables.Stride.{segment}
 use Rattle.node_tables.specs.Tables.{of_rect, rect_of, rect_at}
 use Rattle.tree_steps.specs.Commit.{numbers_of, rects_of, rects_in_front}
-use Rattle.tree_rework.proofs.boxes.Rooms.{numbers_append}
+use Rattle.tree_rework.proofs.Rooms.{numbers_append}
 
 -- a rectangle's numbers are its segment of the table
 four : (v : List Float) → length v ≡ 4 → of_rect (rect_of v) ≡ v
@@ -34,18 +33,7 @@ rects_numbers l (suc n) h =
     rw (numbers_append (rects_of l n) (rect_at l n ∷ []), rects_numbers l n (omega (arith, e)), e)
     (ap (λ (v : List Float). take (4 * n) l ++ v) (own_numbers l n (omega (arith, e))) ∙ sym (take-add (4 * n) 4 l))
 
--- a turn of the copy
-pub copy_next : (l room : List Float) (i : ℕ) (d : Float) → i < length l → i < length room
-    → set (take i l ++ drop i room) i (get_or l i d) ≡ take (i + 1) l ++ drop (i + 1) room
-copy_next l room i d h k =
-    rw (add-one i, drop-cons room i d k, take-suc l i d h)
-    (set_at (take i l) (get_or room i d) (drop (suc i) room) (get_or l i d) i (length-take-le i l (omega arith))
-    ∙ sym (append_snoc (take i l) (get_or l i d) (drop (suc i) room)))
-
-pub copy_length : (l room : List Float) (i : ℕ) → i ≤ length l → i ≤ length room → length (take i l ++ drop i room) ≡ length room
-copy_length l room i h k = omega (arith, length-append (take i l) (drop i room), length-take-le i l h, length-drop i room)
-
--- its end
+-- the numbers that a copy of the table's front leaves
 pub copied : (l room : List Float) (n : ℕ) → 4 * n ≤ length l → take (4 * n) l ++ drop (4 * n) room ≡ rects_in_front (rects_of l n) room
 unfolding rects_in_front
 copied l room n h = rw (rects_numbers l n h, length-take-le (4 * n) l h)

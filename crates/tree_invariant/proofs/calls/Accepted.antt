@@ -1,4 +1,5 @@
 -- What an accepted call tells: each condition that its verdict checks holds.
+use Rattle.std.specs.Prelude.{Ok, Err, Option}
 use mathlib.Core.Path.{◌≡◌, refl}
 use mathlib.Core.Bool.{Bool, true, false, not}
 use Prim.Native.Nat.{ℕ, ◌<◌}
@@ -8,44 +9,40 @@ use lib.Dec.{eqb, ltb}
 use Rattle.numbers.proofs.Bools.{and_left}
 use Rattle.index_types.specs.declared.NodeId.{NodeId}
 use Rattle.tree_types.specs.declared.LocalNode.{LocalNode}
-use Rattle.tree_types.specs.declared.OptionNodeId.{OptionNodeId}
 use Rattle.tree_types.specs.Local.{finite_local, known}
 use Rattle.tree_state.specs.declared.Tree.{Tree}
 use Rattle.tree_state.specs.declared.Refusal.{Refusal}
 use Rattle.tree_state.specs.declared.Refusal.TheVariants as no
-use Rattle.tree_state.specs.declared.Verdict.{Verdict}
-use Rattle.tree_state.specs.declared.Verdict.TheVariants as is
-use Rattle.tree_state.specs.Tree.{is_live, generation_at, live, position_of, checked, checked_next}
+use Rattle.tree_state.specs.Tree.{is_live, generation_at, live, position_of, checked, Verdict}
 use Rattle.tree_steps.specs.Setters.{held, of_node, of_value}
 use Rattle.tree_steps.specs.Structure.{parent_live, at_or_below, insert_verdict, reparent_verdict}
 
-refused : (r : Refusal) → ◌≡◌ {A = Verdict} (is.Refused r) is.Accepted → ⊥
+refused : (r : Refusal) → ◌≡◌ {A = Verdict} (Err r) (Ok tt) → ⊥
 refused r e = let z : ◌≡◌ {A = ℕ} 0 1 = cc in omega arith
 
-pub checked_both : (v : Verdict) (b : Bool) (r : Refusal) → checked v b r ≡ is.Accepted → (v ≡ is.Accepted) × (b ≡ true)
-unfolding checked checked_next
-checked_both is.Accepted true r e = (refl, refl)
-checked_both is.Accepted false r e = absurd (refused r e)
-checked_both (is.Refused q) b r e = absurd (refused q e)
+pub checked_both : (v : Verdict) (b : Bool) (r : Refusal) → checked v b r ≡ Ok tt → (v ≡ Ok tt) × (b ≡ true)
+checked_both (Ok tt) true r e = (refl, refl)
+checked_both (Ok tt) false r e = absurd (refused r e)
+checked_both (Err q) b r e = absurd (refused q e)
 
 module _ (t : Tree) (i : NodeId) where
   pub live_slot : live t i ≡ true → is_live t i.0 ≡ true
   unfolding live
   live_slot h = and_left (is_live t i.0) (eqb (generation_at t i.0) i.1) h
 
-  pub of_node_lem : of_node t i ≡ is.Accepted → is_live t i.0 ≡ true
+  pub of_node_lem : of_node t i ≡ Ok tt → is_live t i.0 ≡ true
   of_node_lem e = live_slot (checked_both (held t) (live t i) no.DeadNode e).1
 
-  pub of_value_lem : (finite : Bool) → of_value t i finite ≡ is.Accepted → (is_live t i.0 ≡ true) × (finite ≡ true)
+  pub of_value_lem : (finite : Bool) → of_value t i finite ≡ Ok tt → (is_live t i.0 ≡ true) × (finite ≡ true)
   of_value_lem finite e = let c = checked_both (of_node t i) finite no.NotFinite e in (of_node_lem c.0, c.1)
 
-pub record InsertHolds (t : Tree) (parent : OptionNodeId) (v : LocalNode) : Type 0 where
+pub record InsertHolds (t : Tree) (parent : Option NodeId) (v : LocalNode) : Type 0 where
   pub parent_live_lem : parent_live t parent ≡ true
   pub finite : finite_local v ≡ true
   pub flags_known : known v.flags ≡ true
   pub room : t.links.count < 256
 
-pub insert_accepted : (t : Tree) (parent : OptionNodeId) (v : LocalNode) → insert_verdict t parent v ≡ is.Accepted → InsertHolds t parent v
+pub insert_accepted : (t : Tree) (parent : Option NodeId) (v : LocalNode) → insert_verdict t parent v ≡ Ok tt → InsertHolds t parent v
 insert_accepted t parent v e =
     let a = checked (held t) (parent_live t parent) no.DeadParent in
     let b = checked a (finite_local v) no.NotFinite in
@@ -60,12 +57,12 @@ insert_accepted t parent v e =
       room = ltb-true t.links.count 256 p.1;
     }
 
-pub record ReparentHolds (t : Tree) (i : NodeId) (parent : OptionNodeId) : Type 0 where
+pub record ReparentHolds (t : Tree) (i : NodeId) (parent : Option NodeId) : Type 0 where
   pub is_live_lem : is_live t i.0 ≡ true
   pub parent_live_lem : parent_live t parent ≡ true
   pub not_below : at_or_below t (position_of t i.0) parent ≡ false
 
-pub reparent_accepted : (t : Tree) (i : NodeId) (parent : OptionNodeId) → reparent_verdict t i parent ≡ is.Accepted → ReparentHolds t i parent
+pub reparent_accepted : (t : Tree) (i : NodeId) (parent : Option NodeId) → reparent_verdict t i parent ≡ Ok tt → ReparentHolds t i parent
 reparent_accepted t i parent e =
     let below = at_or_below t (position_of t i.0) parent in
     let a = checked (of_node t i) (parent_live t parent) no.DeadParent in

@@ -12,7 +12,7 @@ use lib.Seq.{take-suc}
 use Rattle.tree_state.specs.declared.Slots.{Slots}
 use Rattle.tree_steps.specs.Structure.{slot_of, generation_of, saturated, take_slot}
 use Rattle.plan.specs.Plan.{slot_from, free_after, used_after, one_higher, generation_from}
-use Rattle.tree_invariant.proofs.calls.Links.{slot_next, slot_freed}
+use Rattle.tree_laws.proofs.Taken.{slot_next, slot_freed}
 use Rattle.tree_invariant.proofs.calls.Slots.{used_next, used_freed}
 
 -- the plan's free list

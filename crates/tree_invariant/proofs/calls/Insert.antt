@@ -1,5 +1,6 @@
 -- An accepted insert keeps the tree sound and the lengths of its tables: the new slot has the stored record, no boxes and no key, and is marked
 -- and changed in both; every other slot is as it was.
+use Rattle.std.specs.Prelude.{Ok, None, Some, Option}
 use mathlib.Core.Path.{◌≡◌, refl, sym, ap, subst, ◌∙◌}
 use mathlib.Core.Bool.{Bool, true, false}
 use Prim.Native.Nat.{ℕ, ◌+◌, ◌≤◌, ◌<◌}
@@ -17,8 +18,6 @@ use Rattle.geometry_clips.specs.Clips.{finite_clip}
 use Rattle.geometry_clips.proofs.Construct.{construct_again, construct_finite}
 use Rattle.index_types.specs.declared.NodeId.{NodeId}
 use Rattle.tree_types.specs.declared.LocalNode.{LocalNode}
-use Rattle.tree_types.specs.declared.OptionNodeId.{OptionNodeId}
-use Rattle.tree_types.specs.declared.OptionNodeId.TheVariants as node
 use Rattle.tree_types.specs.Local.{finite_local, known, stored, empty_rect}
 use Rattle.node_tables.proofs.Laws.{rect_same, rect_other, rect_length}
 use Rattle.counting.specs.Times.{tally, times}
@@ -30,19 +29,19 @@ use Rattle.link_forest.proofs.Rep.{rep_times}
 use Rattle.link_forest.specs.Sound.{Sound}
 use Rattle.link_table.specs.declared.Links.{Links}
 use Rattle.tree_state.specs.declared.Tree.{Tree}
-use Rattle.tree_state.specs.declared.Verdict.TheVariants as is
 use Rattle.tree_state.specs.Tree.{live_slots, local_at, generation_at, committed_at, key_at, marked_at, transform_changed_at, clip_changed_at, stored_place, stored_bounds, stored_hit_bounds}
 use Rattle.tree_state.specs.Sound.{Live, SoundTree, committed_nodes}
 use Rattle.tree_sound.proofs.Exact.{listed, live}
 use Rattle.tree_steps.specs.Setters.{mark_both}
 use Rattle.tree_steps.specs.Structure.{slot_of, generation_of, take_slot, parent_live, link_new, store_local, clear_boxes, without_key, insert_verdict, insert_tree}
 use Rattle.tree_laws.proofs.Whole.{sized}
-use Rattle.tree_laws.specs.Whole.{Whole}
+use Rattle.tree_state.specs.Whole.{Whole}
 use Rattle.tree_laws.proofs.Ground.{Linked, linked, live_has}
 use Rattle.plan.specs.Plan.{onto}
-use Rattle.tree_invariant.proofs.calls.Counts.{weight, weight_none, count_same}
+use Rattle.tree_laws.proofs.Counts.{weight, weight_none, count_same}
 use Rattle.tree_invariant.proofs.calls.Accepted.{live_slot, insert_accepted}
-use Rattle.tree_invariant.proofs.calls.Links.{new_times, new_low, insert_links}
+use Rattle.tree_invariant.proofs.calls.Links.{insert_links}
+use Rattle.tree_laws.proofs.Taken.{new_times, new_low}
 use Rattle.tree_invariant.proofs.calls.Slots.{taken_fits, taken_once, taken_beyond}
 use Rattle.tree_invariant.proofs.calls.Nodes.{Good, good_of, Shape, Node, Kept, kept_node, assemble}
 use Rattle.tree_invariant.proofs.calls.Locals.{local_is, local_here, local_other, whole_local}
@@ -253,19 +252,19 @@ leaf_count : (x y : ℕ) → count y (leaf x) ≡ tally (eqb y x)
 unfolding count
 leaf_count x y = omega (arith, tally_sym y x)
 
-onto_count : (t : Tree) (f : Forest) → Linked t f → (parent : OptionNodeId) → parent_live t parent ≡ true → (x y : ℕ) → count y (onto parent (leaf x) f) ≡ count y f + tally (eqb y x)
-onto_count t f L node.None p x y = omega (arith, count_cat y f (leaf x), leaf_count x y)
-onto_count t f L (node.Some h) p x y =
+onto_count : (t : Tree) (f : Forest) → Linked t f → (parent : Option NodeId) → parent_live t parent ≡ true → (x y : ℕ) → count y (onto parent (leaf x) f) ≡ count y f + tally (eqb y x)
+onto_count t f L None p x y = omega (arith, count_cat y f (leaf x), leaf_count x y)
+onto_count t f L (Some h) p x y =
     let lives : has h.0 f ≡ true = sym (live_has t f L h.0) ∙ live_slot t h p in
     omega (arith, count_under y h.0 (leaf x) f lives, leaf_count x y)
 
-module _ (t : Tree) (parent : OptionNodeId) (v : LocalNode) where
+module _ (t : Tree) (parent : Option NodeId) (v : LocalNode) where
   -- every slot stands as often as before, and the new one once more
-  pub insert_count : (f : Forest) → Linked t f → insert_verdict t parent v ≡ is.Accepted → (y : ℕ)
+  pub insert_count : (f : Forest) → Linked t f → insert_verdict t parent v ≡ Ok tt → (y : ℕ)
       → count y (onto parent (leaf (slot_of t.slots)) f) ≡ count y f + tally (eqb y (slot_of t.slots))
   insert_count f L e = onto_count t f L parent (insert_accepted t parent v e).parent_live_lem (slot_of t.slots)
 
-  pub keep_insert : Whole t → SoundTree t → insert_verdict t parent v ≡ is.Accepted → Whole (insert_tree t parent v) × SoundTree (insert_tree t parent v)
+  pub keep_insert : Whole t → SoundTree t → insert_verdict t parent v ≡ Ok tt → Whole (insert_tree t parent v) × SoundTree (insert_tree t parent v)
   unfolding insert_tree
   keep_insert w S e =
       let A = insert_accepted t parent v e in
@@ -277,7 +276,7 @@ module _ (t : Tree) (parent : OptionNodeId) (v : LocalNode) where
 
 -- ---- what is read after an insert
 
-module _ (t : Tree) (parent : OptionNodeId) (v : LocalNode) where
+module _ (t : Tree) (parent : Option NodeId) (v : LocalNode) where
   pub insert_slots : (insert_tree t parent v).slots ≡ take_slot t.slots
   unfolding insert_tree
   insert_slots = refl
@@ -334,7 +333,7 @@ module _ (t : Tree) (parent : OptionNodeId) (v : LocalNode) where
     insert_hit_bounds_other = other_hit_bounds t (link_new t parent (slot_of t.slots)) v y n
 
   -- ---- of the new slot
-  module _ (w : Whole t) (S : SoundTree t) (accepted : insert_verdict t parent v ≡ is.Accepted) where
+  module _ (w : Whole t) (S : SoundTree t) (accepted : insert_verdict t parent v ≡ Ok tt) where
     pub insert_low : slot_of t.slots < 256
     insert_low = new_low t w S (insert_accepted t parent v accepted).room
 

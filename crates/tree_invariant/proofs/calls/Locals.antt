@@ -22,7 +22,7 @@ use Rattle.tree_state.specs.Locals.{local_in}
 use Rattle.tree_state.specs.Tree.{local_at}
 use Rattle.tree_steps.specs.Setters.{store_transform, store_clip, store_bounds, store_slop, store_level, store_flags}
 use Rattle.tree_steps.specs.Structure.{store_local}
-use Rattle.tree_laws.specs.Whole.{WholeLocals}
+use Rattle.tree_state.specs.Whole.{WholeLocals}
 
 pub local_is : (t : Tree) (x : ℕ) → local_at t x ≡ local_in t.locals x
 unfolding local_at

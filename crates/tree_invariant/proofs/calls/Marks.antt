@@ -9,7 +9,7 @@ use lib.ListN.{length, get_or, set, length-set}
 use lib.Seq.{get_or-set_same, get_or-set_other}
 use Rattle.tree_state.specs.declared.Marks.{Marks}
 use Rattle.tree_steps.specs.Setters.{mark_alone, mark_transform, mark_clip, mark_both}
-use Rattle.tree_laws.specs.Whole.{WholeMarks}
+use Rattle.tree_state.specs.Whole.{WholeMarks}
 
 -- m after a call that marks the slot x
 pub record Marking (l m : Marks) (x : ℕ) : Type 0 where

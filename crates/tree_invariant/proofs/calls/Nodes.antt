@@ -22,7 +22,7 @@ use Rattle.tree_types.specs.Local.{finite_local, known, empty_rect, with_transfo
 use Rattle.counting.specs.Times.{times}
 use Rattle.link_forest.specs.Forest.{Forest, pre, dep}
 use Rattle.index_sound.specs.Sound.{SoundOf}
-use Rattle.index_state.specs.declared.Index.{Index}
+use Rattle.index_types.specs.declared.Index.{Index}
 use Rattle.tree_state.specs.declared.Pending.{Pending}
 use Rattle.tree_state.specs.declared.Tree.{Tree}
 use Rattle.tree_state.specs.Tree as tree

@@ -1,4 +1,5 @@
 -- An accepted reparent keeps the tree sound and the lengths of its tables: the links are a forest's with the same slots, and the node is marked.
+use Rattle.std.specs.Prelude.{Ok, None, Some, Option}
 use mathlib.Core.Path.{◌≡◌, refl, sym, ap, subst, ◌∙◌}
 use mathlib.Core.Bool.{true, false}
 use Prim.Native.Nat.{ℕ, ◌≤◌, ◌<◌}
@@ -6,8 +7,6 @@ use native.Mathlib.Omega.{arith}
 use lib.Dec.{ltb}
 use lib.ListN.{take}
 use Rattle.index_types.specs.declared.NodeId.{NodeId}
-use Rattle.tree_types.specs.declared.OptionNodeId.{OptionNodeId}
-use Rattle.tree_types.specs.declared.OptionNodeId.TheVariants as node
 use Rattle.counting.specs.Times.{times}
 use Rattle.link_forest.specs.Forest.{Forest, has, count, remove, part}
 use Rattle.link_forest.proofs.Counting.{count_cat, count_under, count_parts, remove_has}
@@ -16,17 +15,16 @@ use Rattle.link_forest.specs.Sound.{Sound}
 use Rattle.link_table.specs.declared.Links.{Links}
 use Rattle.tree_state.specs.declared.Marks.{Marks}
 use Rattle.tree_state.specs.declared.Tree.{Tree}
-use Rattle.tree_state.specs.declared.Verdict.TheVariants as is
 use Rattle.tree_state.specs.Tree.{live_slots, local_at, is_live, position_of, committed_at, marked_at, transform_changed_at, clip_changed_at}
 use Rattle.tree_state.specs.Sound.{Live, SoundTree, committed_nodes}
 use Rattle.tree_sound.proofs.Exact.{live_is, live_low}
 use Rattle.tree_steps.specs.Setters.{mark_both}
 use Rattle.tree_steps.specs.Structure.{parent_live, at_or_below, move_links, reparent_verdict, reparent_tree}
 use Rattle.tree_laws.proofs.Whole.{sized}
-use Rattle.tree_laws.specs.Whole.{Whole, WholeMarks}
+use Rattle.tree_state.specs.Whole.{Whole, WholeMarks}
 use Rattle.tree_laws.proofs.Ground.{Linked, linked, live_has, below_by_places}
 use Rattle.plan.specs.Plan.{onto}
-use Rattle.tree_invariant.proofs.calls.Counts.{weight, count_same}
+use Rattle.tree_laws.proofs.Counts.{weight, count_same}
 use Rattle.tree_invariant.proofs.calls.Accepted.{live_slot, reparent_accepted}
 use Rattle.tree_invariant.proofs.calls.Links.{reparent_links}
 use Rattle.tree_invariant.proofs.calls.Nodes.{Good, good_of, Shape, Node, Kept, kept_node, assemble}
@@ -94,22 +92,22 @@ module _ (t : Tree) (l : Links) (m : Marks) (w : Whole t) (S : SoundTree t) (wm 
 
 -- ---- the moved node's forest has the slots of the one before
 module _ (t : Tree) (f : Forest) (L : Linked t f) (x : ℕ) (there : has x f ≡ true) where
-  moved_count : (parent : OptionNodeId) → parent_live t parent ≡ true → at_or_below t (position_of t x) parent ≡ false → (y : ℕ)
+  moved_count : (parent : Option NodeId) → parent_live t parent ≡ true → at_or_below t (position_of t x) parent ≡ false → (y : ℕ)
       → count y (onto parent (part x f) (remove x f)) ≡ count y f
-  moved_count node.None p b y = count_cat y (remove x f) (part x f) ∙ count_parts y x f there
-  moved_count (node.Some h) p b y =
+  moved_count None p b y = count_cat y (remove x f) (part x f) ∙ count_parts y x f there
+  moved_count (Some h) p b y =
       let lives : has h.0 f ≡ true = sym (live_has t f L h.0) ∙ live_slot t h p in
       let stays : has h.0 (remove x f) ≡ true = remove_has h.0 x f there lives (below_by_places t f L x there h.0 ∙ b) in
       count_under y h.0 (part x f) (remove x f) stays ∙ count_parts y x f there
 
-module _ (t : Tree) (i : NodeId) (parent : OptionNodeId) where
+module _ (t : Tree) (i : NodeId) (parent : Option NodeId) where
   -- every slot stands as often as before
-  pub reparent_count : (f : Forest) → Linked t f → reparent_verdict t i parent ≡ is.Accepted → (y : ℕ) → count y (onto parent (part i.0 f) (remove i.0 f)) ≡ count y f
+  pub reparent_count : (f : Forest) → Linked t f → reparent_verdict t i parent ≡ Ok tt → (y : ℕ) → count y (onto parent (part i.0 f) (remove i.0 f)) ≡ count y f
   reparent_count f L e =
       let A = reparent_accepted t i parent e in
       moved_count t f L i.0 (sym (live_has t f L i.0) ∙ A.is_live_lem) parent A.parent_live_lem A.not_below
 
-  pub keep_reparent : Whole t → SoundTree t → reparent_verdict t i parent ≡ is.Accepted → Whole (reparent_tree t i.0 parent) × SoundTree (reparent_tree t i.0 parent)
+  pub keep_reparent : Whole t → SoundTree t → reparent_verdict t i parent ≡ Ok tt → Whole (reparent_tree t i.0 parent) × SoundTree (reparent_tree t i.0 parent)
   unfolding reparent_tree
   keep_reparent w S e =
       let A = reparent_accepted t i parent e in
@@ -123,7 +121,7 @@ module _ (t : Tree) (i : NodeId) (parent : OptionNodeId) where
 
 -- ---- what is read after a reparent
 
-module _ (t : Tree) (x : ℕ) (parent : OptionNodeId) where
+module _ (t : Tree) (x : ℕ) (parent : Option NodeId) where
   pub reparent_slots : (reparent_tree t x parent).slots ≡ t.slots
   unfolding reparent_tree
   reparent_slots = refl
@@ -184,5 +182,5 @@ module _ (t : Tree) (x : ℕ) (parent : OptionNodeId) where
       reparent_clip_other = (in_both t.marks x w.marks low).clip_other y n
 
 -- the node that is moved is one of the tables' slots
-pub reparent_low : (t : Tree) (i : NodeId) (parent : OptionNodeId) → Whole t → SoundTree t → reparent_verdict t i parent ≡ is.Accepted → i.0 < 256
+pub reparent_low : (t : Tree) (i : NodeId) (parent : Option NodeId) → Whole t → SoundTree t → reparent_verdict t i parent ≡ Ok tt → i.0 < 256
 reparent_low t i parent w S e = live_low t (sized t w) S i.0 (reparent_accepted t i parent e).is_live_lem

@@ -23,7 +23,7 @@ use Rattle.tree_state.specs.declared.Marks.{Marks}
 use Rattle.tree_state.specs.declared.Tree.{Tree}
 use Rattle.tree_state.specs.Tree.{local_at, marked_at, transform_changed_at, clip_changed_at}
 use Rattle.tree_steps.specs.Setters.{with_locals, unless, mark_alone, mark_transform, mark_clip, store_transform, store_clip, store_bounds, store_slop, store_level, store_flags, set_transform, set_clip, set_bounds, set_slop, set_level, set_flags}
-use Rattle.tree_laws.specs.Whole.{Whole}
+use Rattle.tree_state.specs.Whole.{Whole}
 use Rattle.tree_state.specs.Locals.{local_in}
 use Rattle.tree_invariant.proofs.calls.Locals.{local_is, transform_here, transform_other, clip_here_slot, clip_other_slot, bounds_here, bounds_other, slop_here, slop_other, level_here, level_other, flags_here, flags_other}
 use Rattle.tree_invariant.proofs.calls.Marks.{alone, in_transform, in_clip}

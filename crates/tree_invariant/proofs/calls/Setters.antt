@@ -1,4 +1,5 @@
 -- Every accepted setter keeps the tree sound and the lengths of its tables: one law for all, by what the slot's record and marks become.
+use Rattle.std.specs.Prelude.{Ok, Err}
 use mathlib.Core.Path.{◌≡◌, refl, sym, ap, subst, ◌∙◌}
 use mathlib.Core.Bool.{Bool, true, false}
 use Prim.Native.Nat.{ℕ, ◌<◌}
@@ -21,14 +22,12 @@ use Rattle.tree_state.specs.declared.Locals.{Locals}
 use Rattle.tree_state.specs.declared.Marks.{Marks}
 use Rattle.tree_state.specs.declared.Tree.{Tree}
 use Rattle.tree_state.specs.declared.Refusal.TheVariants as no
-use Rattle.tree_state.specs.declared.Verdict.{Verdict}
-use Rattle.tree_state.specs.declared.Verdict.TheVariants as is
-use Rattle.tree_state.specs.Tree.{clip_of}
+use Rattle.tree_state.specs.Tree.{clip_of, Verdict}
 use Rattle.tree_state.specs.Sound.{Live, SoundTree}
 use Rattle.tree_sound.proofs.Exact.{live_low}
 use Rattle.tree_steps.specs.Setters.{of_node, tree_if, with_locals, unless, mark_alone, mark_transform, mark_clip, store_transform, store_clip, store_bounds, store_slop, store_level, store_flags, set_transform, set_clip, set_bounds, set_slop, set_level, set_flags, transform_verdict, clip_verdict, bounds_verdict, slop_verdict, flags_verdict}
 use Rattle.tree_laws.proofs.Whole.{sized}
-use Rattle.tree_laws.specs.Whole.{Whole, WholeLocals, WholeMarks}
+use Rattle.tree_state.specs.Whole.{Whole, WholeLocals, WholeMarks}
 use Rattle.tree_invariant.proofs.calls.Accepted.{checked_both, of_node_lem, of_value_lem}
 use Rattle.tree_invariant.proofs.calls.Nodes.{Good, good_of, Shape, Node, Kept, kept_node, assemble, good_bounds, good_slop, good_transform, good_clip, good_level, good_flags}
 use Rattle.tree_state.specs.Locals.{local_in}
@@ -39,9 +38,9 @@ abbrev pub Keeps : Tree → Type 0
 Keeps t = Whole t × SoundTree t
 
 -- a refused call leaves the tree as it was given
-pub keep_if : (r : Verdict) (done t : Tree) → (r ≡ is.Accepted → Keeps done) → Keeps t → Keeps (tree_if r done t)
-keep_if is.Accepted done t k h = k refl
-keep_if (is.Refused q) done t k h = h
+pub keep_if : (r : Verdict) (done t : Tree) → (r ≡ Ok tt → Keeps done) → Keeps t → Keeps (tree_if r done t)
+keep_if (Ok tt) done t k h = k refl
+keep_if (Err q) done t k h = h
 
 shape_of : (t : Tree) → SoundTree t → (l : Locals) (m : Marks) → Shape (with_locals t l m)
 shape_of t S l m =
@@ -149,20 +148,20 @@ module _ (t : Tree) (w : Whole t) (S : SoundTree t) (x : ℕ) (here : Live t x) 
 
 -- ---- the six
 module _ (t : Tree) (i : NodeId) where
-  pub keep_set_transform : (a : Affine) → Whole t → SoundTree t → transform_verdict t i a ≡ is.Accepted → Whole (set_transform t i.0 a) × SoundTree (set_transform t i.0 a)
+  pub keep_set_transform : (a : Affine) → Whole t → SoundTree t → transform_verdict t i a ≡ Ok tt → Whole (set_transform t i.0 a) × SoundTree (set_transform t i.0 a)
   keep_set_transform a w S e = let A = of_value_lem t i (finite_affine a) e in slot_transform t w S i.0 A.0 a A.1
 
-  pub keep_set_clip : (c : Clip) → Whole t → SoundTree t → clip_verdict t i c ≡ is.Accepted → Whole (set_clip t i.0 c) × SoundTree (set_clip t i.0 c)
+  pub keep_set_clip : (c : Clip) → Whole t → SoundTree t → clip_verdict t i c ≡ Ok tt → Whole (set_clip t i.0 c) × SoundTree (set_clip t i.0 c)
   keep_set_clip c w S e = let A = of_value_lem t i (finite_clip c) e in slot_clip t w S i.0 A.0 c A.1
 
-  pub keep_set_bounds : (r : Rect) → Whole t → SoundTree t → bounds_verdict t i r ≡ is.Accepted → Whole (set_bounds t i.0 r) × SoundTree (set_bounds t i.0 r)
+  pub keep_set_bounds : (r : Rect) → Whole t → SoundTree t → bounds_verdict t i r ≡ Ok tt → Whole (set_bounds t i.0 r) × SoundTree (set_bounds t i.0 r)
   keep_set_bounds r w S e = let A = of_value_lem t i (finite_rect r) e in slot_bounds t w S i.0 A.0 r A.1
 
-  pub keep_set_slop : (s : Insets) → Whole t → SoundTree t → slop_verdict t i s ≡ is.Accepted → Whole (set_slop t i.0 s) × SoundTree (set_slop t i.0 s)
+  pub keep_set_slop : (s : Insets) → Whole t → SoundTree t → slop_verdict t i s ≡ Ok tt → Whole (set_slop t i.0 s) × SoundTree (set_slop t i.0 s)
   keep_set_slop s w S e = let A = of_value_lem t i (finite_insets s) e in slot_slop t w S i.0 A.0 s A.1
 
-  pub keep_set_level : (z : ℤ) → Whole t → SoundTree t → of_node t i ≡ is.Accepted → Whole (set_level t i.0 z) × SoundTree (set_level t i.0 z)
+  pub keep_set_level : (z : ℤ) → Whole t → SoundTree t → of_node t i ≡ Ok tt → Whole (set_level t i.0 z) × SoundTree (set_level t i.0 z)
   keep_set_level z w S e = slot_level t w S i.0 (of_node_lem t i e) z
 
-  pub keep_set_flags : (f : NodeFlags) → Whole t → SoundTree t → flags_verdict t i f ≡ is.Accepted → Whole (set_flags t i.0 f) × SoundTree (set_flags t i.0 f)
+  pub keep_set_flags : (f : NodeFlags) → Whole t → SoundTree t → flags_verdict t i f ≡ Ok tt → Whole (set_flags t i.0 f) × SoundTree (set_flags t i.0 f)
   keep_set_flags f w S e = let A = checked_both (of_node t i) (known f) no.UnknownFlags e in slot_flags t w S i.0 (of_node_lem t i A.0) f A.1

@@ -11,7 +11,7 @@ use Rattle.counting.specs.Times.{tally, times}
 use Rattle.counting.proofs.Counting.{hit, miss}
 use Rattle.tree_state.specs.declared.Slots.{Slots}
 use Rattle.tree_steps.specs.Structure.{slot_of, take_slot}
-use Rattle.tree_invariant.proofs.calls.Links.{slot_next, freed_times}
+use Rattle.tree_laws.proofs.Taken.{slot_next, freed_times}
 
 pub used_next : (s : Slots) → s.frees ≡ 0 → (take_slot s).used ≡ s.used + 1
 used_next s e = rw (eq-eqb s.frees 0 e)

@@ -16,7 +16,7 @@ use Rattle.link_forest.proofs.Rep.{rep_times}
 use Rattle.tree_state.specs.declared.Tree.{Tree}
 use Rattle.tree_state.specs.Tree.{live_slots, marked_at, transform_changed_at, clip_changed_at, committed_at, entry_mark, is_removed, some, any_of, needs_commit}
 use Rattle.tree_state.specs.Sound.{SoundTree, Live, count_below}
-use Rattle.tree_laws.specs.Whole.{Whole}
+use Rattle.tree_state.specs.Whole.{Whole}
 use Rattle.tree_laws.proofs.Ground.{Linked, linked, live_has}
 use Rattle.tree_steps.specs.Commit.{visits_of, rework_all, begun, no_marks, finished, work_for, commit_tree}
 use Rattle.agreement.proofs.worlds.Sound.{Finished, no_mark, none_removed}

@@ -18,7 +18,7 @@ use Rattle.index_entries.specs.Entries.{updated_mark}
 use Rattle.index_entries.proofs.Finding.{slot_unused}
 use Rattle.index_entries.proofs.Keep.{slot_empty, keep_insert, keep_update}
 use Rattle.index_sound.proofs.Exact.{counted}
-use Rattle.index_state.specs.declared.Index.{Index}
+use Rattle.index_types.specs.declared.Index.{Index}
 use Rattle.index_state.specs.Index.{slot_of, generation_of, insert_of, update_of, mark_at}
 use Rattle.index_state.proofs.Soundness.{Counts}
 use Rattle.tree_state.specs.declared.Keys.{Keys}
@@ -26,7 +26,7 @@ use Rattle.tree_state.specs.declared.Tree.{Tree}
 use Rattle.tree_state.specs.Tree.{committed_at}
 use Rattle.tree_state.specs.Tree as tree
 use Rattle.tree_state.specs.Sound.{SoundTree}
-use Rattle.tree_laws.specs.Whole.{Whole, WholeKeys, WholeIndex}
+use Rattle.tree_state.specs.Whole.{Whole, WholeKeys, WholeIndex}
 use Rattle.tree_laws.proofs.Ground.{Linked, live_has}
 use Rattle.tree_steps.specs.Commit.{enter_keys, enter_index}
 use Rattle.agreement.proofs.worlds.Keyed.{Committed, entry, whole_insert, whole_update}

@@ -14,7 +14,7 @@ use Rattle.tree_state.specs.declared.Pending.{Pending}
 use Rattle.tree_state.specs.declared.Tree.{Tree}
 use Rattle.tree_state.specs.Tree.{live_slots, committed_at, key_at, stored_bounds, entry_mark, needs_commit}
 use Rattle.tree_state.specs.Sound.{SoundTree, Owns, Live, count_of, committed_nodes}
-use Rattle.tree_laws.specs.Whole.{Whole, WholeSlots, WholeLinks, WholeLocals, WholeIndex}
+use Rattle.tree_state.specs.Whole.{Whole, WholeSlots, WholeLinks, WholeLocals, WholeIndex}
 use Rattle.tree_laws.proofs.Ground.{Linked, linked, live_has}
 use Rattle.tree_steps.specs.Commit.{visits_of, rework_all, begun, finished, work_for, commit_tree}
 use Rattle.tree_rework.specs.preconditions.Fits.{Ready}

@@ -15,12 +15,12 @@ use Rattle.counting.specs.Times.{tally, times}
 use Rattle.counting.proofs.Counting.{hit, miss}
 use Rattle.index_commit.specs.Commit.{Act, rests, adds, moves, drops, act_of, present_step, boxes_step, Work, start, work, work_step}
 use Rattle.index_commit.proofs.Keep.{commit_whole}
-use Rattle.index_state.specs.declared.Index.{Index}
+use Rattle.index_types.specs.declared.Index.{Index}
 use Rattle.index_state.specs.Index.{work_of, commit_of}
 use Rattle.index_state.proofs.Soundness.{Counts}
 use Rattle.tree_state.specs.Sound.{count_of}
 use Rattle.tree_steps.specs.Commit.{rects_of}
-use Rattle.tree_laws.specs.Whole.{WholeIndex}
+use Rattle.tree_state.specs.Whole.{WholeIndex}
 use Rattle.agreement.proofs.worlds.Left.{kept_step_lem}
 
 -- ---- the index's commit

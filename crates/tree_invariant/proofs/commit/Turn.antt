@@ -18,13 +18,13 @@ use Rattle.link_forest.proofs.Bools.{never}
 use Rattle.index_entries.specs.Entries.{stands}
 use Rattle.index_entries.proofs.Finding.{used_unused, used_last}
 use Rattle.index_entries.proofs.Keep.{slot_fits, queue_of, queue_room}
-use Rattle.index_state.specs.declared.Index.{Index}
+use Rattle.index_types.specs.declared.Index.{Index}
 use Rattle.index_state.specs.Index.{slot_of}
 use Rattle.tree_worlds.specs.declared.Placed.{Placed}
 use Rattle.tree_state.specs.declared.Tree.{Tree}
 use Rattle.tree_state.specs.Tree.{committed_at, key_at, entry_mark, stored_bounds, stored_hit_bounds}
 use Rattle.tree_state.specs.Sound.{count_of}
-use Rattle.tree_laws.specs.Whole.{WholeWorlds}
+use Rattle.tree_state.specs.Whole.{WholeWorlds}
 use Rattle.tree_laws.proofs.Ground.{Linked, small, low, slot_live}
 use Rattle.tree_steps.specs.Commit.{Work, damage_of, enter_index, new_place, new_bounds, new_hit_bounds, rework}
 use Rattle.tree_rework.specs.preconditions.Fits.{Fits}

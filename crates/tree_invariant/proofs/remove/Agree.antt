@@ -1,4 +1,5 @@
 -- An accepted remove keeps the agreement of a tree and a plan.
+use Rattle.std.specs.Prelude.{Ok}
 use mathlib.Core.Path.{◌≡◌, refl, sym, ap, ◌∙◌, subst}
 use mathlib.Core.Bool.{true}
 use mathlib.Core.List.{List, ◌∷◌, ◌++◌, reverse}
@@ -20,11 +21,10 @@ use Rattle.tree_worlds.specs.declared.Placed.{Placed}
 use Rattle.tree_worlds.specs.World.{world_box, hit_box}
 use Rattle.tree_types.specs.Local.{rect_to_aabb}
 use Rattle.tree_state.specs.declared.Tree.{Tree}
-use Rattle.tree_state.specs.declared.Verdict.TheVariants as is
 use Rattle.tree_state.specs.Tree.{position_of, local_at, key_at, entry_mark, is_removed}
 use Rattle.tree_steps.specs.Setters.{of_node}
 use Rattle.tree_steps.specs.Structure.{remove_tree}
-use Rattle.tree_laws.specs.Whole.{Whole}
+use Rattle.tree_state.specs.Whole.{Whole}
 use Rattle.tree_laws.proofs.Ground.{live_has}
 use Rattle.plan.specs.Lists.{any, joined}
 use Rattle.plan.specs.Plan.{Plan, numbers, removed}
@@ -176,7 +176,7 @@ module _ (t : Tree) (p : Plan) (K : Known t p) (x : ℕ) (h : has x p.links ≡ 
         right = right_after;
       }
 
-pub same_remove : (t : Tree) (p : Plan) (i : NodeId) → Known t p → of_node t i ≡ is.Accepted → Known (remove_tree t (position_of t i.0)) (removed p i.0)
+pub same_remove : (t : Tree) (p : Plan) (i : NodeId) → Known t p → of_node t i ≡ Ok tt → Known (remove_tree t (position_of t i.0)) (removed p i.0)
 same_remove t p i K ok =
     let L = K.same.links in
     let h : has i.0 p.links ≡ true = sym (live_has t p.links L i.0) ∙ node_live t i ok in

@@ -19,7 +19,7 @@ use Rattle.index_entries.specs.declared.reads.Mark.TheVariants as is
 use Rattle.index_entries.specs.Entries.{stands, queue_with, length_with, mark_of, unmarked, added, removed_mark}
 use Rattle.index_entries.proofs.Keep as entries
 use Rattle.index_entries.proofs.Keep.{queue_stays, queue_grows, queue_room, queue_of}
-use Rattle.index_state.specs.declared.Index.{Index}
+use Rattle.index_types.specs.declared.Index.{Index}
 use Rattle.index_state.specs.Index.{remove_of}
 use Rattle.tree_state.specs.Tree.{is_removed}
 use Rattle.tree_state.specs.Sound.{count_below}

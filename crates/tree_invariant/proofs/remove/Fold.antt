@@ -19,7 +19,7 @@ use Rattle.tree_types.specs.Local.{empty_rect}
 use Rattle.node_tables.specs.Tables.{rect_at}
 use Rattle.node_tables.proofs.Laws.{rect_length}
 use Rattle.link_table.specs.declared.Links.{Links}
-use Rattle.index_state.specs.declared.Index.{Index}
+use Rattle.index_types.specs.declared.Index.{Index}
 use Rattle.tree_state.specs.declared.Slots.{Slots}
 use Rattle.tree_state.specs.declared.Pending.{Pending}
 use Rattle.tree_state.specs.declared.Tree.{Tree}

@@ -1,4 +1,5 @@
 -- An accepted remove keeps a tree sound and its tables' lengths.
+use Rattle.std.specs.Prelude.{Ok, Err}
 use mathlib.Core.Path.{◌≡◌, refl, sym, ap, ◌∙◌, subst}
 use mathlib.Core.Bool.{Bool, true, false}
 use mathlib.Core.List.{List, ◌++◌}
@@ -25,14 +26,12 @@ use Rattle.index_sound.proofs.Exact.{worded, counted}
 use Rattle.tree_state.specs.declared.Tree.{Tree}
 use Rattle.tree_state.specs.declared.Refusal.{Refusal}
 use Rattle.tree_state.specs.declared.Refusal.TheVariants as no
-use Rattle.tree_state.specs.declared.Verdict.{Verdict}
-use Rattle.tree_state.specs.declared.Verdict.TheVariants as is
 use Rattle.tree_state.specs.Tree as tree
-use Rattle.tree_state.specs.Tree.{live_slots, position_of, is_live, local_at, committed_at, key_at, entry_mark, is_removed, checked_next, checked}
+use Rattle.tree_state.specs.Tree.{live_slots, position_of, is_live, local_at, committed_at, key_at, entry_mark, is_removed, checked, Verdict}
 use Rattle.tree_state.specs.Sound.{Live, Owns, SoundTree, count_of, owner_of, removed_entries, committed_nodes}
 use Rattle.tree_steps.specs.Setters.{held, of_node}
 use Rattle.tree_steps.specs.Structure.{remove_all, with_links, remove_tree}
-use Rattle.tree_laws.specs.Whole.{Whole}
+use Rattle.tree_state.specs.Whole.{Whole}
 use Rattle.tree_laws.proofs.Ground.{Linked, linked, live_has, segment, subtree_post}
 use Rattle.tree_invariant.proofs.remove.Counts.{count_rest, count_fewer, keys_length, keys_has, keys_times, keys_owner, take_sets}
 use Rattle.tree_invariant.proofs.remove.Entries.{marks_length, mark_stays, mark_removed, removed_more, queue_length, keep_keys}
@@ -270,17 +269,16 @@ module _ (t : Tree) (w : Whole t) (S : SoundTree t) (f : Forest) (L : Linked t f
 
 -- ---- an accepted call is of a live node
 
-accepted : (v : Verdict) (b : Bool) (r : Refusal) → checked v b r ≡ is.Accepted → b ≡ true
-unfolding checked checked_next
-accepted is.Accepted true r e = refl
-accepted is.Accepted false r e = let z : ◌≡◌ {A = ℕ} 0 1 = cc in absurd (omega arith)
-accepted (is.Refused q) b r e = let z : ◌≡◌ {A = ℕ} 0 1 = cc in absurd (omega arith)
+accepted : (v : Verdict) (b : Bool) (r : Refusal) → checked v b r ≡ Ok tt → b ≡ true
+accepted (Ok tt) true r e = refl
+accepted (Ok tt) false r e = let z : ◌≡◌ {A = ℕ} 0 1 = cc in absurd (omega arith)
+accepted (Err q) b r e = let z : ◌≡◌ {A = ℕ} 0 1 = cc in absurd (omega arith)
 
-pub node_live : (t : Tree) (i : NodeId) → of_node t i ≡ is.Accepted → Live t i.0
+pub node_live : (t : Tree) (i : NodeId) → of_node t i ≡ Ok tt → Live t i.0
 unfolding tree.live
 node_live t i ok = and_left (is_live t i.0) (eqb (tree.generation_at t i.0) i.1) (accepted (held t) (tree.live t i) no.DeadNode ok)
 
-pub keep_remove : (t : Tree) (i : NodeId) → Whole t → SoundTree t → of_node t i ≡ is.Accepted
+pub keep_remove : (t : Tree) (i : NodeId) → Whole t → SoundTree t → of_node t i ≡ Ok tt
     → Whole (remove_tree t (position_of t i.0)) × SoundTree (remove_tree t (position_of t i.0))
 keep_remove t i w S ok =
     let F = linked t w S in

@@ -30,8 +30,8 @@ use Rattle.tree_state.specs.declared.Tree.{Tree}
 use Rattle.tree_state.specs.Tree.{live_slots, id_at, local_at, stored_bounds, key_at, entry_mark, marked_at, is_removed, some, any_of, needs_commit}
 use Rattle.tree_state.specs.Sound.{Live}
 use Rattle.tree_steps.specs.Requests.{keep_of, payloads, rect_nodes, point_nodes, ids_in_front}
-use Rattle.tree_verdicts.proofs.nodes.Nodes.{Held}
-use Rattle.tree_listings.specs.entries.Entries.{carried_by, Carried, meets}
+use Rattle.tree_verdicts.specs.Held.{Held, Asked, Accepted}
+pub use Rattle.tree_listings.specs.entries.Entries.{node_of, visited, meets, takes}
 
 or_left : (a b : Bool) → a || b ≡ false → a ≡ false
 or_left true b e = e
@@ -61,18 +61,15 @@ module _ (t : Tree) (H : Held t) (q : needs_commit t ≡ false) where
       some_none (λ k. is_removed (entry_mark t k)) 512 (or_right a b (or_left (a || b) (ltb 0 t.pending.count) q)) k h
 
   module _ (k : ℕ) (h : k < 512) (n : entry_mark t k ≡ 0 → ⊥) where
-    pub carries_live : Live t (carried_by t.index.payload k)
+    pub carries_live : Live t (node_of t k)
     carries_live =
         let W = H.sound.owned k h n (none_removed k h) in
         rw (ap (λ (i : NodeId). i.0) W.3.carries) W.1
 
-    carries_own : (key_at t (carried_by t.index.payload k)).0 ≡ k
+    carries_own : (key_at t (node_of t k)).0 ≡ k
     carries_own =
         let W = H.sound.owned k h n (none_removed k h) in
         rw (ap (λ (i : NodeId). i.0) W.3.carries) W.3.slot
-
-  pub carried : Carried t.index.mark t.index.payload
-  carried = ((λ x. (key_at t x).0), λ k h n. (H.low (carried_by t.index.payload k) (carries_live k h n), carries_own k h n))
 
 -- a visited entry is in use
 pub visits_used : (present : List ℕ) (boxes : List Float) (mark : List ℕ) (rect : Aabb2D) (k : ℕ) → visits present boxes mark rect k ≡ true → get_or mark k 0 ≡ 0 → ⊥
@@ -176,20 +173,21 @@ module _ (id : ℕ → NodeId) (p : ℕ → Bool) (room₀ : List ℕ) where
   pub slots_more : (k : ℕ) → p k ≡ true → length (slots (k + 1) p) ≡ length (slots k p) + 1
   slots_more k e = rw (slots_next k p, e) (length-append (slots k p) (k ∷ []))
 
-  pub listing_next : (room room' : List ℕ) (n n' k : ℕ) (b : Bool) → Listing id p room₀ room n k → 512 ≤ length room₀ → length (slots (k + 1) p) ≤ 256 → b ≡ p k
-      → room' ≡ cond b (put_id room n (id k)) room → n' ≡ cond b (n + 1) n → Listing id p room₀ room' n' (k + 1)
-  listing_next room room' n n' k true L h f et er en =
-      let s : slots (k + 1) p ≡ slots k p ++ (k ∷ []) = rw (slots_next k p, ← et) in
+  pub listing_takes : (room : List ℕ) (n k : ℕ) → Listing id p room₀ room n k → 512 ≤ length room₀ → length (slots (k + 1) p) ≤ 256 → p k ≡ true
+      → Listing id p room₀ (put_id room n (id k)) (n + 1) (k + 1)
+  listing_takes room n k L h f e =
+      let s : slots (k + 1) p ≡ slots k p ++ (k ∷ []) = rw (slots_next k p, e) in
       let m : length (map id (slots k p)) ≡ n = length-map (slots k p) id ∙ sym L.many in
-      let g = slots_more k (sym et) in
+      let g = slots_more k e in
       record {
-        lies =
-            er ∙ rw (L.lies, ← m, s, map-append id (slots k p) (k ∷ [])) (front_one (map id (slots k p)) room₀ (omega (arith, L.many)) (id k));
-        many = en ∙ rw (L.many, g);
+        lies = rw (L.lies, ← m, s, map-append id (slots k p) (k ∷ [])) (front_one (map id (slots k p)) room₀ (omega (arith, L.many)) (id k));
+        many = rw (L.many, g);
       }
-  listing_next room room' n n' k false L h f et er en =
-      let s : slots (k + 1) p ≡ slots k p = rw (slots_next k p, ← et) (append-nil (slots k p)) in
-      record { lies = er ∙ rw s L.lies; many = en ∙ rw s L.many }
+
+  pub listing_passes : (room : List ℕ) (n k : ℕ) → Listing id p room₀ room n k → p k ≡ false → Listing id p room₀ room n (k + 1)
+  listing_passes room n k L e =
+      let s : slots (k + 1) p ≡ slots k p = rw (slots_next k p, e) (append-nil (slots k p)) in
+      record { lies = rw s L.lies; many = rw s L.many }
 
   -- nothing is taken beyond what is used
   slots_used : (u n : ℕ) → u ≤ n → ((k : ℕ) → u ≤ k → p k ≡ false) → slots u p ≡ slots n p
@@ -206,10 +204,6 @@ module _ (id : ℕ → NodeId) (p : ℕ → Bool) (room₀ : List ℕ) where
       let e = slots_used u 512 h f in
       record { lies = rw (← e) L.lies; many = rw (← e) L.many }
 
-  -- all entries are looked at
-  pub listing_ends : (room : List ℕ) (n k : ℕ) → Listing id p room₀ room n k → k ≡ 512 → (ids : List NodeId) → ids ≡ map id (slots 512 p) → (room ≡ ids_in_front ids room₀) × (n ≡ length ids)
-  listing_ends room n k L e ids i = rw (i, ← e) (L.lies, L.many ∙ sym (length-map (slots k p) id))
-
 -- ---- a tree's listing by a rectangle
 
 unmet : (p m o q : Bool) → m ≡ false → p && (m && o) && q ≡ false
@@ -220,41 +214,60 @@ map_map : {A B C : Type 0} (f : B → C) (g : A → B) (l : List A) → map f (m
 map_map f g [] = refl
 map_map f g (x ∷ l) = rw (map_map f g l)
 
+abbrev pub asked_of : {t : Tree} {n : ℕ} → Accepted t n → Asked t
+asked_of a = record { held = a.held; no_need = a.no_need }
+
 module _ (t : Tree) where
-  abbrev pub node_of : ℕ → ℕ
-  node_of k = carried_by t.index.payload k
-
   abbrev pub id_of : ℕ → NodeId
-  id_of k = id_at t (node_of k)
+  id_of k = id_at t (node_of t k)
 
-  module _ (asked : NodeFlags) (rect : Aabb2D) where
-    abbrev pub visited : ℕ → Bool
-    visited k = visits t.index.backend.present t.index.backend.boxes t.index.mark rect k
+  module _ (rect : Aabb2D) where
+    -- a visited entry is in use, so its node is live
+    seen_used : (k : ℕ) → visited t rect k ≡ true → entry_mark t k ≡ 0 → ⊥
+    seen_used k = visits_used t.index.backend.present t.index.backend.boxes t.index.mark rect k
 
-    abbrev pub takes : ℕ → Bool
-    takes k = visited k && meets t.locals.flags t.worlds.bounds asked rect (node_of k)
+    pub seen_live : Asked t → (k : ℕ) → k < 512 → visited t rect k ≡ true → Live t (node_of t k)
+    seen_live A k h e = carries_live t A.held A.no_need k h (seen_used k e)
 
-    -- an empty slot is not taken
-    pub not_taken : (k : ℕ) → get_or t.index.mark k 0 ≡ 0 → takes k ≡ false
-    not_taken k z = unmet (not (eqb (get_or t.index.backend.present k 0) 0)) (not (eqb (get_or t.index.mark k 0) 0)) _ _ (rw z)
+    module _ (asked : NodeFlags) where
+      -- an empty slot is not taken
+      pub not_taken : (k : ℕ) → get_or t.index.mark k 0 ≡ 0 → takes t asked rect k ≡ false
+      not_taken k z = unmet (not (eqb (get_or t.index.backend.present k 0) 0)) (not (eqb (get_or t.index.mark k 0) 0)) _ _ (rw z)
 
-    -- what a taken entry gives
-    pub taken_low : Carried t.index.mark t.index.payload → (k : ℕ) → k < 512 → takes k ≡ true → node_of k < 256
-    taken_low C k h e =
-        (C.1 k h (visits_used t.index.backend.present t.index.backend.boxes t.index.mark rect k (and_left (visited k) (meets t.locals.flags t.worlds.bounds asked rect (node_of k)) e))).0
+      taken_seen : (k : ℕ) → takes t asked rect k ≡ true → visited t rect k ≡ true
+      taken_seen k e = and_left (visited t rect k) (meets t asked rect (node_of t k)) e
 
-    pub taken_few : Carried t.index.mark t.index.payload → (k : ℕ) → k ≤ 512 → length (slots k takes) ≤ 256
-    taken_few C k h =
-        few C.0 node_of takes
-        (λ j l e. C.1 j l (visits_used t.index.backend.present t.index.backend.boxes t.index.mark rect j (and_left (visited j) (meets t.locals.flags t.worlds.bounds asked rect (node_of j)) e)))
-        k
-        h
+      module _ (A : Asked t) where
+        -- what a taken entry gives
+        pub taken_low : (k : ℕ) → k < 512 → takes t asked rect k ≡ true → node_of t k < 256
+        taken_low k h e = A.held.low (node_of t k) (seen_live A k h (taken_seen k e))
 
-  pub rect_listed : (asked : NodeFlags) (r : Rect) → rect_nodes t asked r ≡ map id_of (slots 512 (takes asked (rect_to_aabb r)))
-  unfolding rect_nodes rect_slots meets local_at
+        pub taken_few : (k : ℕ) → k ≤ 512 → length (slots k (takes t asked rect)) ≤ 256
+        taken_few k h =
+            few (λ x. (key_at t x).0) (node_of t) (takes t asked rect)
+            (λ j l e. (taken_low j l e, carries_own t A.held A.no_need j l (seen_used j (taken_seen j e))))
+            k
+            h
+
+        -- there is room for one more
+        pub taken_fits : (k : ℕ) → k < 512 → takes t asked rect k ≡ true → length (slots k (takes t asked rect)) < 256
+        taken_fits k h e = omega (arith, slots_more id_of (takes t asked rect) [] k e, taken_few (k + 1) (omega arith))
+
+  pub rect_listed : (asked : NodeFlags) (r : Rect) → rect_nodes t asked r ≡ map id_of (slots 512 (takes t asked (rect_to_aabb r)))
+  unfolding rect_nodes rect_slots
   rect_listed asked r =
-      ap (map (id_at t)) (keep_slots node_of (visited asked (rect_to_aabb r)) (λ x. has_all (local_at t x).flags asked && overlaps (rect_to_aabb (stored_bounds t x)) (rect_to_aabb r)) 512)
-      ∙ map_map (id_at t) node_of (slots 512 (takes asked (rect_to_aabb r)))
+      ap (map (id_at t)) (keep_slots (node_of t) (visited t (rect_to_aabb r)) (meets t asked (rect_to_aabb r)) 512)
+      ∙ map_map (id_at t) (node_of t) (slots 512 (takes t asked (rect_to_aabb r)))
+
+  -- all entries that are used are looked at
+  pub listed : (asked : NodeFlags) (r : Rect) (given : Aabb2D) (room₀ room : List ℕ) (n k : ℕ) → Held t → given ≡ rect_to_aabb r → k ≡ t.index.used → Listing id_of (takes t asked given) room₀ room n k
+      → (room ≡ ids_in_front (rect_nodes t asked r) room₀) × (n ≡ length (rect_nodes t asked r))
+  listed asked r given room₀ room n k H g u L =
+      let I = H.sound.index in
+      let p = takes t asked given in
+      let W = listing_used id_of p room₀ room n k (omega (arith, I.used_fits)) (λ j h. not_taken given asked j (I.beyond j (omega arith))) L in
+      let e : rect_nodes t asked r ≡ map id_of (slots 512 p) = rw g (rect_listed asked r) in
+      rw e (W.lies, W.many ∙ sym (length-map (slots 512 p) id_of))
 
   pub point_listed : (asked : NodeFlags) (pt : Point) → point_nodes t asked pt ≡ rect_nodes t asked (rect pt.x pt.y pt.x pt.y)
   unfolding point_nodes rect_nodes rect_slots point_slots

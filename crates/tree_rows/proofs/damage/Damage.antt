@@ -1,9 +1,9 @@
 -- Worked rows of damage and of the readings of links, each by computation; document 01's P1, P2, P5 and P10 among them.
+use Rattle.std.specs.Prelude.{None, Some}
 use Prim.Native.Nat.{ℕ}
 use mathlib.Core.Path.{◌≡◌, refl}
 use mathlib.Core.List.{List, [], ◌∷◌}
 use Rattle.geometry.specs.Rectangle.{rect}
-use Rattle.tree_types.specs.declared.OptionNodeId.TheVariants as node
 use Rattle.tree_types.specs.Local.{no_inset}
 use Rattle.tree_state.specs.Tree.{number_of, fresh_tree}
 use Rattle.tree_steps.specs.Commit.{commit_tree}
@@ -45,12 +45,12 @@ unfolding computed
 p2 = refl
 
 -- a child moved to its own parent is the last
-pub p5 : children_of (after (root ∷ child a ∷ child a ∷ call.reparent b (node.Some a) ∷ [])) 0 ≡ c ∷ b ∷ []
+pub p5 : children_of (after (root ∷ child a ∷ child a ∷ call.reparent b (Some a) ∷ [])) 0 ≡ c ∷ b ∷ []
 unfolding computed
 p5 = refl
 
 -- after the last leaf of a root comes nothing
-pub p10 : (next_of (after (root ∷ child a ∷ root ∷ [])) 1 ≡ node.None) × (next_of (after (root ∷ child a ∷ root ∷ [])) 0 ≡ node.Some b) × (prev_of (after (root ∷ child a ∷ child a ∷ [])) 2 ≡ node.Some b) × (parent_of (after (root ∷ child a ∷ [])) 0 ≡ node.None)
+pub p10 : (next_of (after (root ∷ child a ∷ root ∷ [])) 1 ≡ None) × (next_of (after (root ∷ child a ∷ root ∷ [])) 0 ≡ Some b) × (prev_of (after (root ∷ child a ∷ child a ∷ [])) 2 ≡ Some b) × (parent_of (after (root ∷ child a ∷ [])) 0 ≡ None)
 unfolding computed
 p10 = (refl, refl, refl, refl)
 
@@ -65,14 +65,14 @@ damages = (refl, refl, refl, refl)
 -- only a changed world box gives damage, its old form and its new, each with area; removals in their order, children first
 pub more_damages : (damage (root ∷ []) ≡ box 0 0 10 10 ∷ [])  -- a new node: its new form alone
     × (damage (root ∷ settle ∷ call.set_local_transform a (shifted 20 0) ∷ call.set_local_transform a identity ∷ []) ≡ [])  -- set back: no damage
-    × (damage (root ∷ settle ∷ call.reparent a node.None ∷ []) ≡ [])  -- moved, and where it was: none
-    × (damage (call.insert node.None (local 0 is.None (pos 0)) ∷ settle ∷ call.remove a ∷ []) ≡ [])  -- a removed box without area
+    × (damage (root ∷ settle ∷ call.reparent a None ∷ []) ≡ [])  -- moved, and where it was: none
+    × (damage (call.insert None (local 0 is.None (pos 0)) ∷ settle ∷ call.remove a ∷ []) ≡ [])  -- a removed box without area
     × (damage (root ∷ settle ∷ call.set_hit_slop a (record { x0 = num 5; y0 = num 5; x1 = num 5; y1 = num 5 }) ∷ []) ≡ [])  -- slop is no damage
-    × (damage (call.insert node.None (grown (num 5)) ∷ settle ∷ call.remove a ∷ []) ≡ box 0 0 10 10 ∷ [])  -- of a removed node the world box, not the hit box
-    × (damage (root ∷ call.insert node.None (local 20 is.None (pos 0)) ∷ settle ∷ call.remove b ∷ call.remove a ∷ []) ≡ box 0 0 20 20 ∷ box 0 0 10 10 ∷ [])  -- removals in their order
-    × (damage (root ∷ call.insert (node.Some a) (local 20 is.None (pos 0)) ∷ settle ∷ call.remove a ∷ []) ≡ box 0 0 20 20 ∷ box 0 0 10 10 ∷ [])  -- children first
+    × (damage (call.insert None (grown (num 5)) ∷ settle ∷ call.remove a ∷ []) ≡ box 0 0 10 10 ∷ [])  -- of a removed node the world box, not the hit box
+    × (damage (root ∷ call.insert None (local 20 is.None (pos 0)) ∷ settle ∷ call.remove b ∷ call.remove a ∷ []) ≡ box 0 0 20 20 ∷ box 0 0 10 10 ∷ [])  -- removals in their order
+    × (damage (root ∷ call.insert (Some a) (local 20 is.None (pos 0)) ∷ settle ∷ call.remove a ∷ []) ≡ box 0 0 20 20 ∷ box 0 0 10 10 ∷ [])  -- children first
     × (damage (root ∷ settle ∷ child a ∷ call.remove b ∷ call.set_local_bounds a (box 0 0 20 20) ∷ []) ≡ box 0 0 10 10 ∷ box 0 0 20 20 ∷ [])  -- a node that no commit has seen gives none
-    × (damage (call.insert node.None (rec (box 0 0 10 10) no_inset identity is.None (pos 0) 0) ∷ []) ≡ box 0 0 10 10 ∷ [])  -- a withheld node gives damage too
+    × (damage (call.insert None (rec (box 0 0 10 10) no_inset identity is.None (pos 0) 0) ∷ []) ≡ box 0 0 10 10 ∷ [])  -- a withheld node gives damage too
     × (number_of no.Unsound ≡ 1)  -- document 01, 1
 unfolding computed
 more_damages = (refl, refl, refl, refl, refl, refl, refl, refl, refl, refl, refl)

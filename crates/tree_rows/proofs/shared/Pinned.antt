@@ -1,5 +1,6 @@
 -- Worked rows of the definitions that both sides of demand 3 share, so that only rows can tell a wrong one: which fields an equality and a finiteness
 -- look at, edges of listings, quadrants and centres of clips, the order of rounding.
+use Rattle.std.specs.Prelude.{None}
 use Prim.Native.Nat.{◌*◌, ◌^◌}
 use mathlib.Core.Path.{◌≡◌, refl}
 use mathlib.Core.Bool.{true, false}
@@ -12,19 +13,18 @@ use Rattle.geometry.specs.Transform.{identity, mapped, product, inverse, affine_
 use Rattle.geometry.specs.bbox.Bbox.{transform_rect_bbox}
 use Rattle.geometry_clips.specs.declared.clip.Clip.TheVariants as is
 use Rattle.geometry_clips.specs.Clips.{constructed, inside, clip_eq, finite_clip}
-use Rattle.tree_types.specs.declared.OptionNodeId.TheVariants as node
 use Rattle.tree_types.specs.Local.{asking, also_asking, default_local, flags, no_inset}
 use Rattle.plan.specs.Afresh.{list_rect, list_point}
 use Rattle.plan.specs.Calls as call
 use Rattle.plan.proofs.Cases as cases
 use Rattle.plan.proofs.Cases.{rec, whole, big, rounded5}
-use Rattle.plan.proofs.Rows.{num, point, local, shifted, grown, root, settle, after, needs, told, a, b, c}
+use Rattle.plan.proofs.Rows.{num, point, local, shifted, grown, root, settle, after, needs, told, a}
 use Rattle.geometry_clips.specs.rounded_rect_radii.Radii.{quadrant}
 
-pub pinned : (told [] (call.insert node.None (rec (rect nan fl.zero fl.zero fl.zero) no_inset identity is.None (pos 0) 3)) ≡ 5)  -- insert 5: bounds
-    × (told [] (call.insert node.None (grown nan)) ≡ 5)  -- insert 5: slop
-    × (told [] (call.insert node.None (local 10 (is.Square fl.zero fl.zero (num 10) (inf false)) (pos 0))) ≡ 5)  -- insert 5: clip
-    × (told [] (call.insert node.None (local 10 (is.Rounded fl.zero fl.zero (num 10) (num 10) (inf false) fl.one fl.one fl.one) (pos 0))) ≡ 5)  -- insert 5: a radius, as handed over
+pub pinned : (told [] (call.insert None (rec (rect nan fl.zero fl.zero fl.zero) no_inset identity is.None (pos 0) 3)) ≡ 5)  -- insert 5: bounds
+    × (told [] (call.insert None (grown nan)) ≡ 5)  -- insert 5: slop
+    × (told [] (call.insert None (local 10 (is.Square fl.zero fl.zero (num 10) (inf false)) (pos 0))) ≡ 5)  -- insert 5: clip
+    × (told [] (call.insert None (local 10 (is.Rounded fl.zero fl.zero (num 10) (num 10) (inf false) fl.one fl.one fl.one) (pos 0))) ≡ 5)  -- insert 5: a radius, as handed over
     × (finite_rect (rect nan fl.zero fl.zero fl.zero) ≡ false)  -- edge 0
     × (finite_insets (record { x0 = nan; y0 = fl.zero; x1 = fl.zero; y1 = fl.zero }) ≡ false)  -- inset 0
     × (finite_clip (is.Rounded fl.zero fl.zero (num 10) (num 10) nan fl.zero fl.zero fl.zero) ≡ false)  -- radius 0
@@ -98,8 +98,8 @@ pub pinned : (told [] (call.insert node.None (rec (rect nan fl.zero fl.zero fl.z
     × (inside (is.Rounded (neg (num (2 ^ 53))) (neg fl.one) (num (2 ^ 53)) fl.one (round binary64 false 3 4) (round binary64 false 3 4) (round binary64 false 3 4) (round binary64 false 3 4)) (record { x = num (2 ^ 53); y = fl.zero }) ≡ false)  -- width/2 − R is rounded first
     × (constructed (is.Rounded fl.zero fl.zero (num 10) (num 4) (num 9) (num 9) (num 9) (num 9)) ≡ is.Rounded fl.zero fl.zero (num 10) (num 4) (num 2) (num 2) (num 2) (num 2))  -- half the shorter side, if that is the height
     × (constructed (is.Rounded fl.zero fl.zero (num 10) (num 10) fl.zero (num 5) fl.zero fl.zero) ≡ is.Rounded fl.zero fl.zero (num 10) (num 10) fl.zero (num 5) fl.zero fl.zero)  -- one radius is enough
-    × (needs (call.insert node.None (local 10 (is.Square fl.zero fl.zero (num 10) (num 10)) (pos 0)) ∷ settle ∷ call.set_local_clip a rounded5 ∷ []) ≡ true)  -- radii count
-    × (needs (call.insert node.None (local 10 (is.Square fl.zero fl.zero (num 10) (num 10)) (pos 0)) ∷ settle ∷ call.set_local_clip a is.None ∷ []) ≡ true)  -- none over a clip
+    × (needs (call.insert None (local 10 (is.Square fl.zero fl.zero (num 10) (num 10)) (pos 0)) ∷ settle ∷ call.set_local_clip a rounded5 ∷ []) ≡ true)  -- radii count
+    × (needs (call.insert None (local 10 (is.Square fl.zero fl.zero (num 10) (num 10)) (pos 0)) ∷ settle ∷ call.set_local_clip a is.None ∷ []) ≡ true)  -- none over a clip
 unfolding cases.computed
 pinned = (refl, refl, refl, refl, refl, refl, refl, refl, refl, refl, refl, refl, refl, refl, refl, refl, refl, refl, refl, refl, refl, refl, refl, refl, refl, refl, refl, refl, refl, refl, refl, refl, refl, refl, refl, refl, refl, refl, refl, refl, refl, refl, refl, refl, refl, refl, refl, refl, refl, refl, refl, refl, refl, refl, refl, refl, refl, refl, refl, refl, refl, refl, refl, refl, refl, refl, refl, refl, refl, refl, refl, refl, refl, refl, refl, refl, refl, refl, refl)
 
@@ -112,7 +112,7 @@ pub pinned_2 : (mapped (record { a = fl.one; b = fl.one; c = fl.one; d = fl.one;
     × (plus_insets (whole 10) (record { x0 = num 1; y0 = num 2; x1 = num 3; y1 = num 4 }) ≡ rect (neg (num 1)) (neg (num 2)) (num 13) (num 14))  -- each inset at its edge
     × (needs (root ∷ settle ∷ call.set_hit_slop a (record { x0 = neg fl.zero; y0 = fl.zero; x1 = fl.zero; y1 = fl.zero }) ∷ []) ≡ false)  -- −0 over +0: slop
     × (((after (root ∷ call.set_hit_slop a (record { x0 = neg fl.zero; y0 = fl.zero; x1 = fl.zero; y1 = fl.zero }) ∷ [])).local 0).hit_slop ≡ no_inset)  -- old bits kept: slop
-    × (((after (call.insert node.None (local 10 (is.Square fl.zero fl.zero (num 10) (num 10)) (pos 0)) ∷ call.set_local_clip a (is.Square (neg fl.zero) fl.zero (num 10) (num 10)) ∷ [])).local 0).local_clip ≡ is.Square fl.zero fl.zero (num 10) (num 10))  -- old bits kept: clip
+    × (((after (call.insert None (local 10 (is.Square fl.zero fl.zero (num 10) (num 10)) (pos 0)) ∷ call.set_local_clip a (is.Square (neg fl.zero) fl.zero (num 10) (num 10)) ∷ [])).local 0).local_clip ≡ is.Square fl.zero fl.zero (num 10) (num 10))  -- old bits kept: clip
     × ((after (root ∷ settle ∷ call.set_local_clip a (is.Square fl.zero fl.zero fl.one fl.one) ∷ [])).mark 0 ≡ record { marked = true; transform = false; clip = true })  -- changed in clip alone
     × ((after (root ∷ settle ∷ call.set_local_transform a (shifted 1 0) ∷ [])).mark 0 ≡ record { marked = true; transform = true; clip = false })  -- in transform alone
     × ((after (root ∷ settle ∷ call.set_local_bounds a (whole 9) ∷ [])).mark 0 ≡ record { marked = true; transform = false; clip = false })  -- in neither

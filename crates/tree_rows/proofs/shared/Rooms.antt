@@ -1,5 +1,6 @@
 -- Worked rows of the lent room of commits, listings and taps, each by computation: results stand in front, what is behind them stays, and a
 -- refused call leaves all of it. (`tree_rows` has those of ids, rectangles, children and the index.)
+use Rattle.std.specs.Prelude.{Ok, Err, None}
 use Prim.Native.Nat.{ℕ}
 use mathlib.Core.Path.{◌≡◌, refl}
 use mathlib.Core.List.{List, [], ◌∷◌}
@@ -17,8 +18,6 @@ use Rattle.tree_taps.specs.Taps.{tap_room}
 use Rattle.tree_steps.specs.Structure.{insert_tree}
 use Rattle.tree_state.specs.declared.Tree.{Tree}
 use Rattle.tree_state.specs.declared.Refusal.TheVariants as no
-use Rattle.tree_state.specs.declared.Verdict.TheVariants as is
-use Rattle.tree_types.specs.declared.OptionNodeId.TheVariants as node
 use Rattle.tree_rows.proofs.Rows as rows
 
 -- five numbers, and five floats
@@ -28,22 +27,22 @@ room = 5 ∷ 6 ∷ 7 ∷ 8 ∷ 9 ∷ []
 unfoldable pub floats : List Float
 floats = num 5 ∷ num 6 ∷ num 7 ∷ num 8 ∷ num 9 ∷ []
 
-pub commits : (room_after is.Accepted [] floats ≡ floats)
-    × (room_after is.Accepted (rect (num 0) (num 1) (num 2) (num 3) ∷ []) floats ≡ num 0 ∷ num 1 ∷ num 2 ∷ num 3 ∷ num 9 ∷ [])
-    × (room_after (is.Refused no.ShortRoom) (rect (num 0) (num 1) (num 2) (num 3) ∷ []) floats ≡ floats)
+pub commits : (room_after (Ok tt) [] floats ≡ floats)
+    × (room_after (Ok tt) (rect (num 0) (num 1) (num 2) (num 3) ∷ []) floats ≡ num 0 ∷ num 1 ∷ num 2 ∷ num 3 ∷ num 9 ∷ [])
+    × (room_after (Err no.ShortRoom) (rect (num 0) (num 1) (num 2) (num 3) ∷ []) floats ≡ floats)
 unfolding room_after rects_in_front floats
 commits = (refl, refl, refl)
 
 -- listings and taps: ids
-pub requests : (room_if is.Accepted [] room ≡ room)
-    × (room_if is.Accepted (a ∷ b ∷ []) room ≡ 0 ∷ 1 ∷ 1 ∷ 1 ∷ 9 ∷ [])
-    × (room_if (is.Refused no.NeedsCommit) (a ∷ b ∷ []) room ≡ room)
+pub requests : (room_if (Ok tt) [] room ≡ room)
+    × (room_if (Ok tt) (a ∷ b ∷ []) room ≡ 0 ∷ 1 ∷ 1 ∷ 1 ∷ 9 ∷ [])
+    × (room_if (Err no.NeedsCommit) (a ∷ b ∷ []) room ≡ room)
 unfolding room_if ids_in_front room id a b
 requests = (refl, refl, refl)
 
 -- whole calls: a new node, and the tree once it is committed
 unfoldable pub new : Tree
-new = insert_tree fresh_tree node.None ten
+new = insert_tree fresh_tree None ten
 
 unfoldable pub settled : Tree
 settled = (commit_tree new).tree

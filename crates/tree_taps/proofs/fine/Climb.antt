@@ -8,7 +8,14 @@ use lib.ListN.{length, get_or, take}
 use lib.Seq.{take-suc}
 use Rattle.link_forest.specs.Table.{less_deep}
 use Rattle.link_forest.proofs.Lists.{less_deep_lem, not_less_deep}
-use Rattle.tree_state.specs.Sound.{every_of}
+use Rattle.geometry.specs.declared.point.Point.{Point}
+use Rattle.tree_state.specs.declared.Tree.{Tree}
+use Rattle.tree_steps.specs.Commit.{ancestors}
+use Rattle.tree_steps.specs.Requests.{in_stored_clips}
+use Rattle.tree_verdicts.specs.Held.{Held}
+use Rattle.tree_verdicts.proofs.nodes.Nodes.{sizes}
+use Rattle.tree_verdicts.proofs.need.Walks.{sound_places}
+use Rattle.tree_taps.specs.fine.Fine.{clip_holds}
 
 -- of the slots and depths of the first j places, those that are less deep than d, the nearest first
 abbrev pub back : ℕ → List ℕ → List ℕ → ℕ → List ℕ
@@ -28,6 +35,10 @@ module _ (d j : ℕ) (xs ds : List ℕ) (lx : j < length xs) (ld : j < length ds
   pub back_past : d ≤ get_or ds j 0 → back d xs ds (suc j) ≡ back d xs ds j
   back_past h = rw (last_first_lem xs j lx, last_first_lem ds j ld) (not_less_deep d (get_or xs j 0) (get_or ds j 0) (reverse (take j xs)) (reverse (take j ds)) h)
 
+pub ancestors_back : (t : Tree) (i : ℕ) → ancestors t i ≡ back (get_or t.links.depth i 0) t.links.order t.links.depth i
+unfolding ancestors
+ancestors_back t i = refl
+
 -- ---- a turn of a loop that goes back from the place j
 
 module _ (d j : ℕ) (xs ds : List ℕ) (pos : 0 < j) (lx : j ≤ length xs) (ld : j ≤ length ds) where
@@ -40,18 +51,30 @@ module _ (d j : ℕ) (xs ds : List ℕ) (pos : 0 < j) (lx : j ≤ length xs) (ld
   pub turn_past : d ≤ get_or ds (j - 1) 0 → back d xs ds j ≡ back d xs ds (j - 1)
   turn_past h = ap (back d xs ds) turn ∙ back_past d (j - 1) xs ds (omega arith) (omega arith) h
 
-  -- a test of each
-  module _ (p : ℕ → Bool) where
-    every_here : get_or ds (j - 1) 0 < d → every_of p (back d xs ds j) ≡ p (get_or xs (j - 1) 0) && every_of p (back (get_or ds (j - 1) 0) xs ds (j - 1))
-    unfolding every_of
-    every_here h = ap (every_of p) (turn_here h)
+-- ---- the clips of those that are less deep
 
-    pub every_stop : get_or ds (j - 1) 0 < d → p (get_or xs (j - 1) 0) ≡ false → every_of p (back d xs ds j) ≡ false
-    every_stop h e = every_here h ∙ rw e
+-- a slot of the tables
+pub low_above : (t : Tree) → Held t → (j : ℕ) → j < t.links.count → get_or t.links.order j 0 < 256
+low_above t H j h = (sound_places t (sizes t H.whole) H.test).2 j h
 
-    pub every_on : get_or ds (j - 1) 0 < d → p (get_or xs (j - 1) 0) ≡ true → every_of p (back d xs ds j) ≡ every_of p (back (get_or ds (j - 1) 0) xs ds (j - 1))
-    every_on h e = every_here h ∙ rw e
+module _ (t : Tree) (H : Held t) (pt : Point) where
+  abbrev clips : ℕ → ℕ → Bool
+  clips d j = in_stored_clips t (back d t.links.order t.links.depth j) pt
 
-pub every_none : (p : ℕ → Bool) (d : ℕ) (xs ds : List ℕ) → every_of p (back d xs ds 0) ≡ true
-unfolding every_of less_deep
-every_none p d xs ds = refl
+  pub clips_none : (d j : ℕ) → j ≤ 0 → clips d j ≡ true
+  unfolding in_stored_clips less_deep
+  clips_none d j h = let e : j ≡ 0 = omega arith in rw e
+
+  module _ (d j : ℕ) (pos : 0 < j) (fits : j ≤ t.links.count) where
+    clips_here : get_or t.links.depth (j - 1) 0 < d → clips d j ≡ clip_holds t pt (get_or t.links.order (j - 1) 0) && clips (get_or t.links.depth (j - 1) 0) (j - 1)
+    unfolding in_stored_clips clip_holds
+    clips_here h = ap (λ (l : List ℕ). in_stored_clips t l pt) (turn_here d j t.links.order t.links.depth pos (omega (arith, H.count_fits, H.whole.links.order)) (omega (arith, H.count_fits, H.whole.links.depth)) h)
+
+    pub clips_stop : get_or t.links.depth (j - 1) 0 < d → clip_holds t pt (get_or t.links.order (j - 1) 0) ≡ false → clips d j ≡ false
+    clips_stop h e = clips_here h ∙ rw e
+
+    pub clips_on : get_or t.links.depth (j - 1) 0 < d → clip_holds t pt (get_or t.links.order (j - 1) 0) ≡ true → clips d j ≡ clips (get_or t.links.depth (j - 1) 0) (j - 1)
+    clips_on h e = clips_here h ∙ rw e
+
+    pub clips_past : d ≤ get_or t.links.depth (j - 1) 0 → clips d j ≡ clips d (j - 1)
+    clips_past h = ap (λ (l : List ℕ). in_stored_clips t l pt) (turn_past d j t.links.order t.links.depth pos (omega (arith, H.count_fits, H.whole.links.order)) (omega (arith, H.count_fits, H.whole.links.depth)) h)

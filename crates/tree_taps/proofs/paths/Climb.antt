@@ -15,7 +15,11 @@ use Rattle.link_table.proofs.depths.Depths.{depth_small}
 use Rattle.index_types.specs.declared.NodeId.{NodeId}
 use Rattle.index_types.specs.flat_tables.Tables.{put_id}
 use Rattle.index_types.proofs.rooms.Rooms.{back_one, front_none}
-use Rattle.tree_steps.specs.Requests.{ids_in_front}
+use Rattle.tree_state.specs.declared.Tree.{Tree}
+use Rattle.tree_state.specs.Tree.{id_at, position_of}
+use Rattle.tree_steps.specs.Commit.{ancestors}
+use Rattle.tree_steps.specs.Requests.{ids_in_front, path_to}
+use Rattle.tree_verdicts.specs.Held.{Held}
 use Rattle.tree_taps.proofs.fine.Climb.{back_none, back_here, back_past, turn_here, turn_past}
 pub use Rattle.tree_taps.proofs.fine.Climb.{back}
 
@@ -81,29 +85,59 @@ module _ (id : ℕ → NodeId) (n : ℕ) (xs ds : List ℕ) (small : n ≤ 256) 
   count_at : (j : ℕ) → j < n → suc (length (back (get_or ds j 0) xs ds j)) ≡ get_or ds j 0
   count_at j h = back_count n ds ld shape xs lx j (get_or ds j 0) h (deep_one n ds ld shape j h) (omega arith)
 
-  pub path_turn : (room room' goal : List ℕ) (d j : ℕ) → 0 < j → j < n → get_or ds (j - 1) 0 < d → 512 ≤ length room → ids_in_front (rest d j) room ≡ goal
-      → room' ≡ put_id room (get_or ds (j - 1) 0 - 1) (id (get_or xs (j - 1) 0)) → ids_in_front (rest (get_or ds (j - 1) 0) (j - 1)) room' ≡ goal
-  path_turn room room' goal d j p h m long inv e =
+  pub path_turn : (room goal : List ℕ) (d j : ℕ) → 0 < j → j < n → get_or ds (j - 1) 0 < d → 512 ≤ length room → ids_in_front (rest d j) room ≡ goal
+      → ids_in_front (rest (get_or ds (j - 1) 0) (j - 1)) (put_id room (get_or ds (j - 1) 0 - 1) (id (get_or xs (j - 1) 0))) ≡ goal
+  path_turn room goal d j p h m long inv =
       let y = get_or xs (j - 1) 0 in
       let k = get_or ds (j - 1) 0 in
-      let l = back k xs ds (j - 1) in
-      ap (ids_in_front (rest k (j - 1))) e
-      ∙ sym (path_one id room long y l k (count_at (j - 1) (omega arith)) (omega (arith, deep_most n ds ld shape (j - 1) (omega arith))))
+      sym (path_one id room long y (back k xs ds (j - 1)) k (count_at (j - 1) (omega arith)) (omega (arith, deep_most n ds ld shape (j - 1) (omega arith))))
       ∙ ap (λ (q : List ℕ). ids_in_front (map id (reverse q)) room) (sym (turn_here d j xs ds p (omega arith) (omega arith) m))
       ∙ inv
 
   pub path_skip : (room goal : List ℕ) (d j : ℕ) → 0 < j → j < n → d ≤ get_or ds (j - 1) 0 → ids_in_front (rest d j) room ≡ goal → ids_in_front (rest d (j - 1)) room ≡ goal
-  path_skip room goal d j p h m inv =
-      ap (λ (q : List ℕ). ids_in_front (map id (reverse q)) room) (sym (turn_past d j xs ds p (omega arith) (omega arith) m)) ∙ inv
+  path_skip room goal d j p h m inv = ap (λ (q : List ℕ). ids_in_front (map id (reverse q)) room) (sym (turn_past d j xs ds p (omega arith) (omega arith) m)) ∙ inv
 
-  pub path_ends : (room₀ room₁ room : List ℕ) (x at d j : ℕ) → at < n → 512 ≤ length room₀ → j ≡ 0 → room₁ ≡ put_id room₀ (get_or ds at 0 - 1) (id x)
-      → ids_in_front (rest d j) room ≡ ids_in_front (rest (get_or ds at 0) at) room₁ → (room ≡ ids_in_front (map id (reverse (x ∷ back (get_or ds at 0) xs ds at))) room₀) × (get_or ds at 0 ≡ length (map id (reverse (x ∷ back (get_or ds at 0) xs ds at))))
-  path_ends room₀ room₁ room x at d j h long z e inv =
-      let k = get_or ds at 0 in
-      let l = back k xs ds at in (
-        sym (rw z (path_none id room d xs ds))
-            ∙ inv
-            ∙ ap (ids_in_front (rest k at)) e
-            ∙ sym (path_one id room₀ long x l k (count_at at h) (omega (arith, deep_most n ds ld shape at h))),
-        sym (path_length id x l ∙ count_at at h),
-      )
+-- ---- over a sound tree
+
+module _ (t : Tree) (H : Held t) where
+  long_order : t.links.count ≤ length t.links.order
+  long_order = omega (arith, H.count_fits, H.whole.links.order)
+
+  long_depth : t.links.count ≤ length t.links.depth
+  long_depth = omega (arith, H.count_fits, H.whole.links.depth)
+
+  pub depth_one : (j : ℕ) → j < t.links.count → 1 ≤ get_or t.links.depth j 0
+  depth_one j h = deep_one t.links.count t.links.depth long_depth H.depths j h
+
+  pub depth_most : (j : ℕ) → j < t.links.count → get_or t.links.depth j 0 ≤ 256
+  depth_most j h = omega (arith, H.count_fits, deep_most t.links.count t.links.depth long_depth H.depths j h)
+
+  -- what is still to be written when the place j is reached at the depth d
+  abbrev pub left : ℕ → ℕ → List NodeId
+  left d j = map (id_at t) (reverse (back d t.links.order t.links.depth j))
+
+  module _ (room : List ℕ) (long : 512 ≤ length room) where
+    pub path_begins : (x at : ℕ) → at ≡ position_of t x → at < t.links.count
+        → ids_in_front (left (get_or t.links.depth at 0) at) (put_id room (get_or t.links.depth at 0 - 1) (id_at t x)) ≡ ids_in_front (path_to t x) room
+    unfolding path_to ancestors
+    path_begins x at e h =
+        let k = get_or t.links.depth at 0 in
+        rw (← e)
+        (sym (path_one (id_at t) room long x (back k t.links.order t.links.depth at) k (count_at (id_at t) t.links.count t.links.order t.links.depth H.count_fits long_order long_depth H.depths at h) (depth_most at h)))
+
+    pub path_written : (goal : List ℕ) (d j : ℕ) → 0 < j → j < t.links.count → get_or t.links.depth (j - 1) 0 < d → ids_in_front (left d j) room ≡ goal
+        → ids_in_front (left (get_or t.links.depth (j - 1) 0) (j - 1)) (put_id room (get_or t.links.depth (j - 1) 0 - 1) (id_at t (get_or t.links.order (j - 1) 0))) ≡ goal
+    path_written goal d j p h m inv = path_turn (id_at t) t.links.count t.links.order t.links.depth H.count_fits long_order long_depth H.depths room goal d j p h m long inv
+
+  pub path_skipped : (room goal : List ℕ) (d j : ℕ) → 0 < j → j < t.links.count → d ≤ get_or t.links.depth (j - 1) 0 → ids_in_front (left d j) room ≡ goal → ids_in_front (left d (j - 1)) room ≡ goal
+  path_skipped room goal d j p h m inv = path_skip (id_at t) t.links.count t.links.order t.links.depth H.count_fits long_order long_depth H.depths room goal d j p h m inv
+
+  pub path_ends : (room goal : List ℕ) (d j : ℕ) → j ≤ 0 → ids_in_front (left d j) room ≡ goal → room ≡ goal
+  path_ends room goal d j h inv = let e : j ≡ 0 = omega arith in sym (path_none (id_at t) room d t.links.order t.links.depth) ∙ (rw e at inv)
+
+  pub path_deep : (x at : ℕ) → at ≡ position_of t x → at < t.links.count → get_or t.links.depth at 0 ≡ length (path_to t x)
+  unfolding path_to ancestors
+  path_deep x at e h =
+      let k = get_or t.links.depth at 0 in
+      rw (← e)
+      (sym (path_length (id_at t) x (back k t.links.order t.links.depth at) ∙ count_at (id_at t) t.links.count t.links.order t.links.depth H.count_fits long_order long_depth H.depths at h))

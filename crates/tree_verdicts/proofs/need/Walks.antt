@@ -8,8 +8,10 @@ use native.Mathlib.Decide.{dec_lt}
 use native.Mathlib.Numerals.{add-one}
 use lib.ListN.{length, take, get_or}
 use lib.Seq.{take-suc}
-use Rattle.numbers.proofs.Bools.{and_left}
-use Rattle.counting.specs.Times.{every}
+use Rattle.numbers.proofs.Bools.{and_left, and_right}
+use Rattle.counting.specs.Lists.{once_below}
+use Rattle.counting.specs.Times.{every, times, tally}
+use lib.Dec.{eqb, ltb, leb}
 use Rattle.link_forest.specs.Table.{depths_from}
 use Rattle.index_sound.specs.Sound.{sound_of}
 use Rattle.tree_state.specs.declared.Tree.{Tree}
@@ -17,7 +19,7 @@ use Rattle.tree_state.specs.Tree.{any_of, some, live_slots}
 use Rattle.tree_state.specs.Sound.{every_of, slots_right, node_right, entry_right, counts_right, sound_tree}
 use Rattle.tree_sound.specs.Parts.{Low, Sized}
 use Rattle.tree_sound.proofs.Exact.{decides}
-use Rattle.tree_sound.proofs.Whole.{slots_fit, slots_low}
+use Rattle.tree_sound.proofs.Lists.{listed_by}
 
 or_next : (a b c : Bool) → a || (b || c) ≡ a || b || c
 or_next true b c = refl
@@ -27,6 +29,10 @@ or_false : (a : Bool) → a || false ≡ a
 or_false true = refl
 or_false false = refl
 
+or_true : (a : Bool) → a || true ≡ true
+or_true true = refl
+or_true false = refl
+
 any_snoc : (p : ℕ → Bool) (l : List ℕ) (y : ℕ) → any_of p (l ++ (y ∷ [])) ≡ any_of p l || p y
 unfolding any_of
 any_snoc p [] y = or_false (p y)
@@ -34,6 +40,23 @@ any_snoc p (x ∷ l) y = rw (any_snoc p l y) (or_next (p x) (any_of p l) (p y))
 
 pub any_more : (p : ℕ → Bool) (l : List ℕ) (i : ℕ) → i < length l → any_of p (take (i + 1) l) ≡ any_of p (take i l) || p (get_or l i 0)
 any_more p l i h = rw (add-one i, take-suc l i 0 h) (any_snoc p (take i l) (get_or l i 0))
+
+-- one that stands among the first n
+pub any_hit : (p : ℕ → Bool) (l : List ℕ) (n i : ℕ) → i < n → i < length l → p (get_or l i 0) ≡ true → any_of p (take n l) ≡ true
+unfolding any_of
+any_hit p [] n i h k e = absurd (omega arith)
+any_hit p (x ∷ l) zero i h k e = absurd (omega arith)
+any_hit p (x ∷ l) (suc n) zero h k e = rw e
+any_hit p (x ∷ l) (suc n) (suc i) h k e = rw (any_hit p l n i (omega arith) (omega arith) e) (or_true (p x))
+
+pub some_hit : (p : ℕ → Bool) (n i : ℕ) → i < n → p i ≡ true → some n p ≡ true
+unfolding some
+some_hit p zero i h e = absurd (omega arith)
+some_hit p (suc n) i h e =
+    elim (dec_lt i n) [
+      | yes l ↦ rw (some_hit p n i l e)
+      | no g ↦ (let f : i ≡ n = omega arith in rw (← f, e) (or_true (some i p)))
+    ]
 
 pub some_more : (p : ℕ → Bool) (k : ℕ) → some (k + 1) p ≡ some k p || p k
 unfolding some
@@ -63,13 +86,14 @@ sound_slots t h =
 
 -- its places hold slots of the tables
 pub sound_places : (t : Tree) → Sized t → sound_tree t ≡ true → (t.links.count ≤ 256) × (length t.links.order ≡ 256) × Low t.links.order t.links.count
+unfolding slots_right
 sound_places t s h =
     let L = t.links in
-    let r = sound_slots t h in (
-      slots_fit L.order L.count t.slots.free t.slots.frees t.slots.used r s.order,
-      s.order,
-      slots_low L.order L.count t.slots.free t.slots.frees t.slots.used r s.order,
-    )
+    let S = t.slots in
+    let rest = once_below 256 S.free S.frees && every 256 (λ (x : ℕ). eqb (times x (take L.count L.order) + times x (take S.frees S.free)) (tally (ltb x S.used))) in
+    let r = and_right (leb S.used 256) (once_below 256 L.order L.count && rest) (sound_slots t h) in
+    let G = listed_by t s.order (sym (and_left (once_below 256 L.order L.count) rest r)) in
+    (G.fits, G.long, G.low)
 
 -- its entries are among the used slots
 pub sound_used : (t : Tree) → Sized t → sound_tree t ≡ true → (t.index.used ≤ 512) × ((k : ℕ) → t.index.used ≤ k → get_or t.index.mark k 0 ≡ 0)

@@ -1,70 +1,56 @@
 -- What an accepting test gives to the call that made it.
+use Rattle.std.specs.Prelude.{Ok, Err, Some, OnOk}
 use mathlib.Core.Path.{◌≡◌, refl, sym, ◌∙◌}
 use mathlib.Core.Bool.{Bool, true, false, ◌&&◌}
-use Prim.Native.Nat.{ℕ, ◌≤◌, ◌<◌}
 use native.Mathlib.Omega.{arith}
 use borrow.Author.Tests.{ltb-true, eqb-true}
 use lib.Dec.{eqb}
-use lib.ListN.{length, take}
+use lib.ListN.{take}
 use Rattle.numbers.proofs.Bools.{and_left, and_right}
 use Rattle.link_forest.specs.Table.{depths_from}
 use Rattle.index_sound.specs.Sound.{sound_of}
 use Rattle.counting.specs.Times.{every}
 use Rattle.index_types.specs.declared.NodeId.{NodeId}
-use Rattle.tree_types.specs.declared.OptionNodeId.{OptionNodeId}
-use Rattle.tree_types.specs.declared.OptionNodeId.TheVariants as node
 use Rattle.tree_state.specs.declared.Tree.{Tree}
 use Rattle.tree_state.specs.declared.Refusal.{Refusal}
 use Rattle.tree_state.specs.declared.Refusal.TheVariants as no
-use Rattle.tree_state.specs.declared.Verdict.{Verdict}
-use Rattle.tree_state.specs.declared.Verdict.TheVariants as is
-use Rattle.tree_state.specs.Tree.{live_slots, position_of, is_live, generation_at, live, checked, checked_next}
-use Rattle.tree_state.specs.Sound.{Live, SoundTree, every_of, slots_right, node_right, entry_right, counts_right, sound_tree}
+use Rattle.tree_state.specs.Tree.{live_slots, position_of, is_live, generation_at, live, checked, checked_next, Verdict}
+use Rattle.tree_state.specs.Sound.{every_of, slots_right, node_right, entry_right, counts_right, sound_tree}
 use Rattle.tree_sound.specs.Parts.{Sized}
 use Rattle.tree_sound.proofs.Exact.{decides, live_low}
 use Rattle.tree_steps.specs.Setters.{held, of_node}
 use Rattle.tree_steps.specs.Structure.{parent_live}
-use Rattle.tree_verdicts.specs.nodes.Live.{LowSlots, parent_in}
+use Rattle.tree_verdicts.specs.Held.{Held, Node}
+use Rattle.tree_state.specs.Whole.{Whole}
 
 -- ---- conditions one after the other
 
-pub not_accepted : (r : Refusal) → is.Refused r ≡ is.Accepted → ⊥
-not_accepted r e = let z : ◌≡◌ {A = ℕ} 0 1 = cc in omega arith
+pub not_accepted : (r : Refusal) → ◌≡◌ {A = Verdict} (Err r) (Ok tt) → ⊥
+not_accepted r e = grind (arith, e)
 
 -- accepted: the tests before accept, and the condition holds
-pub checked_accepted : (v : Verdict) (b : Bool) (r : Refusal) → checked v b r ≡ is.Accepted → (v ≡ is.Accepted) × (b ≡ true)
-unfolding checked checked_next
-checked_accepted is.Accepted true r e = (refl, refl)
-checked_accepted is.Accepted false r e = absurd (not_accepted r e)
-checked_accepted (is.Refused q) b r e = absurd (not_accepted q e)
+pub checked_accepted : (v : Verdict) (b : Bool) (r : Refusal) → checked v b r ≡ Ok tt → (v ≡ Ok tt) × (b ≡ true)
+checked_accepted (Ok tt) true r e = (refl, refl)
+checked_accepted (Ok tt) false r e = absurd (not_accepted r e)
+checked_accepted (Err q) b r e = absurd (not_accepted q e)
 
 -- and the other way
-pub checked_both : (v : Verdict) (b : Bool) (r : Refusal) → v ≡ is.Accepted → b ≡ true → checked v b r ≡ is.Accepted
-unfolding checked checked_next
+pub checked_both : (v : Verdict) (b : Bool) (r : Refusal) → v ≡ Ok tt → b ≡ true → checked v b r ≡ Ok tt
 checked_both v b r e f = rw (e, f)
 
 -- refused before: by the same
-pub checked_stays : (v : Verdict) (b : Bool) (r q : Refusal) → v ≡ is.Refused q → checked v b r ≡ is.Refused q
-unfolding checked
+pub checked_stays : (v : Verdict) (b : Bool) (r q : Refusal) → v ≡ Err q → checked v b r ≡ Err q
 checked_stays v b r q e = rw e
 
 -- accepted before, and the condition fails
-pub checked_fails : (v : Verdict) (b : Bool) (r : Refusal) → v ≡ is.Accepted → b ≡ false → checked v b r ≡ is.Refused r
-unfolding checked checked_next
+pub checked_fails : (v : Verdict) (b : Bool) (r : Refusal) → v ≡ Ok tt → b ≡ false → checked v b r ≡ Err r
 checked_fails v b r e f = rw (e, f)
 
 -- what a call answers as soon as a test before has refused
-pub checked_stopped : (v w : Verdict) (b : Bool) (r q : Refusal) → w ≡ v → w ≡ is.Refused q → w ≡ checked v b r
+pub checked_stopped : (v w : Verdict) (b : Bool) (r q : Refusal) → w ≡ v → w ≡ Err q → w ≡ checked v b r
 checked_stopped v w b r q e f = f ∙ sym (checked_stays v b r q (sym e ∙ f))
 
 -- ---- a sound tree
-
-pub record Held (t : Tree) : Type 0 where
-  pub test : sound_tree t ≡ true
-  pub sound : SoundTree t
-  pub count_fits : t.links.count ≤ 256
-  pub depths : depths_from 0 (take t.links.count t.links.depth) ≡ true
-  pub low : (x : ℕ) → Live t x → x < 256
 
 pub sound_depths : (t : Tree) → sound_tree t ≡ true → depths_from 0 (take t.links.count t.links.depth) ≡ true
 unfolding sound_tree
@@ -75,41 +61,35 @@ sound_depths t h =
     let c = sound_of X.mark X.free X.frees X.dirty X.queued X.used && (every_of (node_right t) (live_slots t) && (every 512 (entry_right t) && counts_right t)) in
     and_left b c (and_right a (b && c) h)
 
-module _ (t : Tree) (s : Sized t) where
+pub sizes : (t : Tree) → Whole t → Sized t
+sizes t w =
+    record {
+      order = w.links.order;
+      depth = w.links.depth;
+      free = w.slots.free;
+      mark = w.index.mark;
+      entries_free = w.index.free;
+      dirty = w.index.dirty;
+    }
+
+module _ (t : Tree) (w : Whole t) where
   pub sound_held : sound_tree t ≡ true → Held t
   sound_held h =
+      let s = sizes t w in
       let S = (decides t s).0 h in
-      record { test = h; sound = S; count_fits = S.count_fits; depths = sound_depths t h; low = live_low t s S }
+      record { test = h; sound = S; whole = w; listed = record { count_fits = S.count_fits; low = live_low t s S }; count_fits = S.count_fits; depths = sound_depths t h; low = live_low t s S }
 
-  pub held_accepted : held t ≡ is.Accepted → Held t
-  held_accepted e = sound_held (checked_accepted is.Accepted (sound_tree t) no.Unsound e).1
-
--- what `is_live_lem` requires
-pub live_needs : (t : Tree) → Sized t → Held t → (t.links.count ≤ 256) × (length t.links.order ≡ 256) × LowSlots t.links.order t.links.count
-live_needs t s H = (H.count_fits, s.order, H.low)
-
--- the parent's test over the tables is the tree's
-pub parent_in_lem : (t : Tree) (parent : OptionNodeId) → parent_in t.links.order t.links.count t.slots.generation parent ≡ parent_live t parent
-unfolding live
-parent_in_lem t node.None = refl
-parent_in_lem t (node.Some h) = refl
+  pub held_accepted : held t ≡ Ok tt → Held t
+  held_accepted e = sound_held (checked_accepted (Ok tt) (sound_tree t) no.Unsound e).1
 
 -- ---- a live node of it
-
-pub record Node (t : Tree) (i : NodeId) : Type 0 where
-  pub whole : Held t
-  pub alive : live t i ≡ true
-  pub is_live_lem : Live t i.0
-  pub generation_is : generation_at t i.0 ≡ i.1
-  pub slot_low : i.0 < 256
-  pub place_fits : position_of t i.0 < t.links.count
 
 pub live_node : (t : Tree) → Held t → (i : NodeId) → live t i ≡ true → Node t i
 unfolding live
 live_node t H i h =
     let l = and_left (is_live t i.0) (eqb (generation_at t i.0) i.1) h in
     record {
-      whole = H;
+      held = H;
       alive = h;
       is_live_lem = l;
       generation_is = eqb-true (generation_at t i.0) i.1 (and_right (is_live t i.0) (eqb (generation_at t i.0) i.1) h);
@@ -117,12 +97,23 @@ live_node t H i h =
       place_fits = ltb-true (position_of t i.0) t.links.count l;
     }
 
-module _ (t : Tree) (s : Sized t) where
-  pub node_accepted : (i : NodeId) → of_node t i ≡ is.Accepted → Node t i
+module _ (t : Tree) (w : Whole t) where
+  pub node_accepted : (i : NodeId) → of_node t i ≡ Ok tt → Node t i
   node_accepted i e =
       let p = checked_accepted (held t) (live t i) no.DeadNode e in
-      live_node t (held_accepted t s p.0) i p.1
+      live_node t (held_accepted t w p.0) i p.1
 
   -- a live parent, after tests that have found the tree sound
-  pub parent_accepted : Held t → (v : Verdict) (h : NodeId) → checked v (parent_live t (node.Some h)) no.DeadParent ≡ is.Accepted → Node t h
+  pub parent_accepted : Held t → (v : Verdict) (h : NodeId) → checked v (parent_live t (Some h)) no.DeadParent ≡ Ok tt → Node t h
   parent_accepted H v h e = live_node t H h (checked_accepted v (live t h) no.DeadParent e).1
+
+-- ---- what the tests tell where they accept
+
+module _ (t : Tree) (w : Whole t) where
+  pub held_told : (b : Bool) (v : Verdict) → v ≡ checked_next b no.Unsound → b ≡ sound_tree t → OnOk v (Held t)
+  held_told true v f e = rw f (sound_held t w (sym e))
+  held_told false v f e = rw f tt
+
+pub node_told : (t : Tree) → Held t → (i : NodeId) (b : Bool) (v : Verdict) → v ≡ checked_next b no.DeadNode → b ≡ live t i → OnOk v (Node t i)
+node_told t H i true v f e = rw f (live_node t H i (sym e))
+node_told t H i false v f e = rw f tt

@@ -1,6 +1,5 @@
--- What counts as changed; a turn of the loop that pushes positions.
+-- A turn of the loop that pushes positions.
 use mathlib.Core.Path.{◌≡◌, sym, ◌∙◌}
-use mathlib.Core.Bool.{Bool, true, false, ◌&&◌, ◌||◌}
 use mathlib.Core.List.{List, [], ◌∷◌, ◌++◌, append_assoc, append-nil}
 use Prim.Native.Nat.{ℕ, suc, ◌+◌, ◌-◌, ◌≤◌, ◌<◌}
 use native.Mathlib.Numerals.{add-one}
@@ -10,17 +9,6 @@ use lib.Seq.{take-suc-set, length-take-le}
 use Rattle.link_table.specs.Links.{in_front}
 use Rattle.tree_steps.specs.Commit.{positions_from}
 
--- ---- changed
-pub changed_not : (m a b : Bool) → m ≡ false → m && (a || b) ≡ false
-changed_not m a b e = rw e
-
-pub changed_first : (m a b : Bool) → m ≡ true → a ≡ true → m && (a || b) ≡ true
-changed_first m a b e d = rw (e, d)
-
-pub changed_second : (m a b : Bool) → m ≡ true → a ≡ false → m && (a || b) ≡ b
-changed_second m a b e d = rw (e, d)
-
--- ---- push_positions
 pub positions_cons : (i e : ℕ) → i < e → positions_from i (e - i) ≡ i ∷ positions_from (i + 1) (e - (i + 1))
 unfolding positions_from
 positions_cons i e h = let w : e - i ≡ suc (e - (i + 1)) = omega arith in rw (w, add-one i)

@@ -1,32 +1,45 @@
-use Rattle.std.proofs.Common.{◌≡◌, ℕ, Bool, List, ℤ, pos, sym, ap, ◌∙◌, arith, w64, SFits, to_z, of_z, to_z-of_z}
-use borrow.Author.Rules.{rules}
+use Rattle.std.proofs.Common.{◌≡◌, Bool, true, false, cond, Option, None, Some, option_map, List, [], ◌∷◌, map, ℕ, pos, refl, ap, ◌∙◌, rules, tests}
+use Rattle.std.specs.List.{find}
+use Rattle.std.specs.Ordering.{int_eq}
+use Rattle.std.proofs.lemmas.Iterator.{YieldsList-from_slice}
+use Rattle.std.proofs.lemmas.Iterator.Search.{find_from_yields_List}
+use Rattle.geometry_clips.specs.declared.clip.Clip.{Clip}
+use Rattle.geometry_clips.specs.declared.clip.Clip.TheVariants as clip
 use Rattle.sheet_format.specs.declared.ClipLine.{ClipLine}
-use Rattle.sheet_format.specs.Sheet.{clip_width, clip_of, equal}
-use Rattle.sheet_format.specs.Told.{row_at}
-use Rattle.sheet_calls.specs.Calls.{clip_on}
-use Rattle.sheet_laws.proofs.Tables.{none_left, this_one, not_this}
+use Rattle.sheet_format.specs.Sheet.{clip_of}
+use Rattle.sheet_format.specs.Told.{clip_numbers}
+use Rattle.sheet_format.proofs.Equal.{equal_is}
+use Rattle.sheet_calls.specs.Calls.{clip_on, clip_for}
 use Rattle.sheet_tree.proofs.arguments.clip_for.Goals as goal
 
--- the row's own place
-told : (clips : List ℤ) (k i : ℕ) (b : Bool) (l : ClipLine) → SFits w64 l.place → l ≡ clip_of (row_at clip_width i clips)
-    → b ≡ equal (to_z w64 (of_z w64 l.place)) (pos k) → equal (clip_of (row_at clip_width i clips)).place (pos k) ≡ b
-told clips k i b l f h e = sym (e ∙ ap (λ (z : ℤ). equal z (pos k)) (to_z-of_z f) ∙ ap (λ (l : ClipLine). equal l.place (pos k)) h)
+abbrev clip_at : Option ClipLine → Clip
+clip_at None = clip.None
+clip_at (Some c) = clip_on c
 
-pub returns-then-is_place : goal.returns-then-is_place
-returns-then-is_place c =
-    let A = c.args in
-    let l = c.clip_at-c in
-    let f : SFits w64 l.result.place = search rules in
-    let e = told A.clips.now A.k c.loop-i.i c.is_place.result l.result f l.ensures c.is_place.ensures in
-    c.clip_on.ensures ∙ ap clip_on l.ensures ∙ this_one A.m A.clips.now A.k c.loop-i.i c.loop-i-test.true (e ∙ c.if-is_place.true) ∙ c.loop-i.invariant.1
+-- the line of place k
+abbrev named : ℕ → ClipLine → Bool
+named k c = int_eq c.place (pos k)
 
-pub loop-i-preserved : goal.loop-i-preserved
-loop-i-preserved c =
-    let A = c.args in
-    let l = c.clip_at-c in
-    let f : SFits w64 l.result.place = search rules in
-    let e = told A.clips.now A.k c.loop-i.i c.is_place.result l.result f l.ensures c.is_place.ensures in
-    (omega arith, not_this A.m A.clips.now A.k c.loop-i.i c.loop-i-test.true (e ∙ c.if-is_place.false) ∙ c.loop-i.invariant.1)
+by : (b : Bool) (k : ℕ) (c : ClipLine) (cs : List ClipLine) → clip_at (find (named k) cs) ≡ clip_for (map clip_numbers cs) k
+    → clip_at (cond b (Some c) (find (named k) cs)) ≡ cond b (clip_on c) (clip_for (map clip_numbers cs) k)
+by true k c cs e = refl
+by false k c cs e = e
 
-pub returns : goal.returns
-returns c = none_left c.args.m c.args.clips.now c.args.k c.loop-i.i c.loop-i-test.false ∙ c.loop-i.invariant.1
+first : (k : ℕ) (cs : List ClipLine) → clip_at (find (named k) cs) ≡ clip_for (map clip_numbers cs) k
+unfolding clip_for clip_of
+first k [] = refl
+first k (c ∷ cs) = rw (← equal_is c.place (pos k)) (by (named k c) k c cs (first k cs))
+
+pub returns-in-Some : goal.returns-in-Some
+returns-in-Some c =
+    let cs = c.args.clips.now in
+    let e : option_map (λ r. r.now) c.find.result ≡ find (named c.args.k) cs =
+    find_from_yields_List (named c.args.k) _ _ c.find.result c.find.ensures.ran (YieldsList-from_slice cs cc) (λ x b q h. search (rules, tests)) in
+    c.clip_on.ensures ∙ ap clip_at (rw c.in-Some.is at e) ∙ first c.args.k cs
+
+pub returns-in-None : goal.returns-in-None
+returns-in-None c =
+    let cs = c.args.clips.now in
+    let e : option_map (λ r. r.now) c.find.result ≡ find (named c.args.k) cs =
+    find_from_yields_List (named c.args.k) _ _ c.find.result c.find.ensures.ran (YieldsList-from_slice cs cc) (λ x b q h. search (rules, tests)) in
+    ap clip_at (rw c.in-None.is at e) ∙ first c.args.k cs

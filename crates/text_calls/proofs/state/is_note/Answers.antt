@@ -1,8 +1,9 @@
+use Rattle.std.proofs.Common.{arith}
 use Rattle.text_calls.proofs.state.Notes.{empty_note, first_note}
 use Rattle.text_calls.proofs.state.is_note.Goals as goal
 
-pub returns-then-line-eq0 : goal.returns-then-line-eq0
-returns-then-line-eq0 c = empty_note c.args.line.now c.if-line-eq0.true
+pub returns-in-empty : goal.returns-in-empty
+returns-in-empty c = empty_note c.args.line.now (omega arith)
 
-pub returns : goal.returns
-returns c = first_note c.args.line.now c.if-line-eq0.false
+pub returns-in-len1-up : goal.returns-in-len1-up
+returns-in-len1-up c = first_note c.args.line.now (λ e. omega arith)

@@ -1,13 +1,14 @@
-use Rattle.std.proofs.Common.{sym, refl, arith}
+use Rattle.std.proofs.Common.{sym, ◌∙◌, arith}
+use Rattle.std.proofs.lemmas.Slice.Eq.{bytes_eq-Decides}
 use Rattle.text_lines.proofs.spelling.Nan.{clash}
 use Rattle.text_lines.proofs.spelling.Split.{found, passed, ended}
 use Rattle.text_lines.proofs.spelling.place.Goals as goal
 
-pub returns-then-same : goal.returns-then-same
-returns-then-same c =
+pub returns-then-eq : goal.returns-then-eq
+returns-then-eq c =
     let l = c.loop-at in
     let e = c.find-end in
-    found c.args.names.now l.at e.result c.loop-at-test.true e.ensures.value c.args.name.now l.k l.invariant.2 (c.if-same.ensures.0 refl)
+    found c.args.names.now l.at e.result c.loop-at-test.true e.ensures.value c.args.name.now l.k l.invariant.2 ((bytes_eq-Decides _ _).0 (sym c.if-eq.ensures))
 
 pub loop-at-preserved : goal.loop-at-preserved
 loop-at-preserved c =
@@ -16,7 +17,7 @@ loop-at-preserved c =
       omega arith,
       omega arith,
       passed c.args.names.now l.at e.result c.loop-at-test.true e.ensures.value c.args.name.now l.k l.invariant.2
-          (λ m. clash (sym (c.if-same.ensures.1 m))),
+          (λ m. clash (sym ((bytes_eq-Decides _ _).1 m) ∙ sym c.if-eq.ensures)),
     )
 
 pub returns : goal.returns

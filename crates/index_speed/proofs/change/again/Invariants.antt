@@ -1,6 +1,0 @@
--- The measure is the number of commits that are left.
-use Rattle.std.proofs.Common.{◌-◌}
-use Rattle.index_speed.proofs.change.again.Given as goal
-
-abbrev pub decreases-loop-k : goal.decreases-loop-k
-decreases-loop-k l = 64 - l.k

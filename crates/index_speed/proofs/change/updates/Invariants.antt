@@ -1,5 +1,0 @@
--- The measure is the number of rounds that are left.
-use Rattle.index_speed.proofs.change.updates.Given as goal
-
-abbrev pub decreases-loop-left : goal.decreases-loop-left
-decreases-loop-left l = l.left

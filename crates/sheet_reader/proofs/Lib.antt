@@ -1,0 +1,4 @@
+pub mod Steps
+pub mod Turns
+pub mod Counts
+pub mod Whole

@@ -1,4 +1,0 @@
-pub mod Ranges
-pub mod Steps
-pub mod Turns
-pub mod Counts

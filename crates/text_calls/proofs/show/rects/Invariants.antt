@@ -1,6 +1,0 @@
--- There are at most 512 rectangles. The measure is what is left of 512.
-use Rattle.std.proofs.Common.{◌-◌}
-use Rattle.text_calls.proofs.show.rects.Given as goal
-
-abbrev pub decreases-loop-i : goal.decreases-loop-i
-decreases-loop-i l = 512 - l.i
