@@ -9,7 +9,8 @@ use index_types::{Index, Key};
 fn next_generation(generation: u32) -> u32
     ensures { result ≡ spec.next_generation generation }
 {
-    generation.checked_add(1).unwrap_or(1)
+    let next = generation.wrapping_add(1);
+    if next == 0 { 1 } else { next }
 }
 
 // Whether a slot stands in the queue.

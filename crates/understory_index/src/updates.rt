@@ -12,7 +12,9 @@ pub fn update(index: &mut Index, key: Key, aabb: Aabb2D) -> Result<(), Refusal>
     ensures index { index.new ≡ spec.after index.old (spec.update key aabb) }
 {
     check(index_sound::is_sound(index), Refusal::Unsound)?;
-    check(index_entries::is_live(index, key), Refusal::DeadKey)?;
+    let Some(_entry) = index_entries::look_up(index, key) else {
+        return Err(Refusal::DeadKey);
+    };
     index_entries::update_entry(index, key.0, aabb);
     Ok(())
 }
@@ -23,7 +25,9 @@ pub fn remove(index: &mut Index, key: Key) -> Result<(), Refusal>
     ensures index { index.new ≡ spec.after index.old (spec.remove key) }
 {
     check(index_sound::is_sound(index), Refusal::Unsound)?;
-    check(index_entries::is_live(index, key), Refusal::DeadKey)?;
+    let Some(_entry) = index_entries::look_up(index, key) else {
+        return Err(Refusal::DeadKey);
+    };
     index_entries::remove_entry(index, key.0);
     Ok(())
 }
