@@ -8,8 +8,10 @@ use lib.ListN.{take}
 use Rattle.counting.specs.Times.{times}
 use Rattle.link_forest.specs.Forest.{has}
 use Rattle.index_commit.specs.Agree.{Agree}
+use Rattle.tree_state.specs.declared.Dirty.{Dirty}
+use Rattle.tree_state.specs.declared.IndexKey.{IndexKey}
 use Rattle.tree_state.specs.declared.Tree.{Tree}
-use Rattle.tree_state.specs.Tree.{generation_at, local_at, marked_at, transform_changed_at, clip_changed_at, committed_at, key_at, stored_place, entry_mark, is_removed}
+use Rattle.tree_state.specs.Tree.{generation_at, local_at, dirty, index_key, stored_place, entry_mark, is_removed}
 use Rattle.tree_state.specs.Sound.{SoundTree}
 use Rattle.tree_state.specs.Whole.{Whole}
 use Rattle.tree_laws.proofs.Ground.{Linked}
@@ -22,11 +24,17 @@ use Rattle.agreement.specs.Afresh.{Boxed}
 
 -- ---- the plan's records, read off the tree
 
+abbrev pub as_mark : Dirty → Mark
+as_mark d = record { marked = d.marked; transform = d.transform; clip = d.clip }
+
+abbrev pub as_entry : IndexKey → Entry
+as_entry i = entry_if i.committed i.key.0
+
 abbrev pub mark_of : Tree → ℕ → Mark
-mark_of t x = record { marked = marked_at t x; transform = transform_changed_at t x; clip = clip_changed_at t x }
+mark_of t x = as_mark (dirty t.marks x)
 
 abbrev pub entry_of : Tree → ℕ → Entry
-entry_of t x = entry_if (committed_at t x) (key_at t x).0
+entry_of t x = as_entry (index_key t.keys x)
 
 pub record Same (t : Tree) (p : Plan) : Type 0 where
   pub links : Linked t p.links
@@ -61,7 +69,7 @@ Queued t = (k : ℕ) → 1 ≤ times k (take t.index.queued t.index.dirty) → i
 
 -- the backend has each unmarked entry's own box, and none for an empty slot
 abbrev pub Backed : Tree → Type 0
-Backed t = Agree t.index.mark t.index.backend.present t.index.backend.boxes t.index.aabb
+Backed t = Agree t.index.entries t.index.backend.entries
 
 pub record Known (t : Tree) (p : Plan) : Type 0 where
   pub whole : Whole t

@@ -1,8 +1,8 @@
 -- A tree's stored world records, and the boxes of its entries, are those that the plan works out afresh.
+use Rattle.index_types.specs.Slots.{entry_in}
 use Rattle.std.specs.Prelude.{ℕ, ◌≡◌, true}
 use Rattle.index_types.specs.declared.Aabb2D.{Aabb2D}
 use Rattle.index_types.specs.Boxes.{aabb_eq}
-use Rattle.index_types.specs.flat_tables.Tables.{box_at}
 use Rattle.link_forest.specs.Forest.{has}
 use Rattle.tree_types.specs.Local.{rect_to_aabb}
 use Rattle.tree_state.specs.declared.Tree.{Tree}
@@ -19,7 +19,7 @@ pub data Alike (a b : Aabb2D) : Type 0 where
 pub record Boxed (t : Tree) (p : Plan) (x : ℕ) : Type 0 where
   pub bounds : stored_bounds t x ≡ world_bounds p x
   pub hit_bounds : stored_hit_bounds t x ≡ world_hit_bounds p x
-  pub entry : Alike (box_at t.index.aabb (key_at t x).0) (rect_to_aabb (world_hit_bounds p x))
+  pub entry : Alike (entry_in t.index.entries (key_at t x).0).aabb (rect_to_aabb (world_hit_bounds p x))
 
 -- every live node's stored place and boxes are those worked out afresh
 pub record Afresh (t : Tree) (p : Plan) : Type 0 where

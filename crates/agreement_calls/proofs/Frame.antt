@@ -7,9 +7,9 @@ use Prim.Native.Nat.{ℕ, ◌≤◌}
 use native.Mathlib.Omega.{arith}
 use native.Mathlib.Decide.{ℕ_discrete}
 use borrow.Author.Tests.{eq-eqb, ne_eqb}
+use Rattle.index_types.specs.Slots.{entry_in}
 use Rattle.counting.specs.Times.{times}
 use Rattle.counting.proofs.Counting.{hit, miss}
-use Rattle.index_types.specs.flat_tables.Tables.{box_at}
 use Rattle.tree_types.specs.declared.LocalNode.{LocalNode}
 use Rattle.link_forest.specs.Forest.{has, above}
 use Rattle.tree_state.specs.declared.Tree.{Tree}
@@ -65,7 +65,7 @@ pub record Unmoved (t : Tree) (p : Plan) (t' : Tree) (p' : Plan) (y : ℕ) : Typ
   pub slop : (p'.local y).hit_slop ≡ (p.local y).hit_slop
   pub stored_bounds_lem : stored_bounds t' y ≡ stored_bounds t y
   pub stored_hit_bounds_lem : stored_hit_bounds t' y ≡ stored_hit_bounds t y
-  pub entry : box_at t'.index.aabb (key_at t' y).0 ≡ box_at t.index.aabb (key_at t y).0
+  pub entry : (entry_in t'.index.entries (key_at t' y).0).aabb ≡ (entry_in t.index.entries (key_at t y).0).aabb
 
 -- of a live node that does not count as changed now; above a settled one stands what stood there
 pub record Still (t : Tree) (p : Plan) (t' : Tree) (p' : Plan) : Type 0 where

@@ -6,12 +6,12 @@ use native.Mathlib.Omega.{arith}
 use lib.ListN.{get_or, replicate}
 use Rattle.counting.specs.Times.{times, every}
 use Rattle.counting.specs.Lists.{once_below}
-use Rattle.link_forest.specs.Forest.{none}
 use Rattle.link_forest.specs.Table.{depths_from}
 use Rattle.link_forest.proofs.Clauses.{has_nothing}
 use Rattle.link_forest.proofs.Sound.{sound_empty}
 use Rattle.index_sound.specs.Sound.{sound_of}
 use Rattle.index_state.specs.Index.{fresh_index}
+use Rattle.index_state.proofs.Backend.{fresh_own}
 use Rattle.tree_state.specs.Tree.{fresh_tree}
 use Rattle.tree_state.specs.Sound.{SoundTree, count_of, count_below, every_of, slots_right, entry_right, counts_right, sound_tree}
 use Rattle.tree_sound.proofs.Exact.{decides}
@@ -55,15 +55,8 @@ unfolding fresh_tree fresh_index times
 queued_fresh k h = absurd (omega arith)
 
 backed_fresh : Backed fresh_tree
-unfolding fresh_tree fresh_index
-backed_fresh =
-    record {
-      mark_whole = refl;
-      present_whole = refl;
-      boxes_whole = refl;
-      own = λ x e. absurd (omega (arith, same_everywhere 512 x 0));
-      none = λ x. rw (same_everywhere 512 x 0);
-    }
+unfolding fresh_tree
+backed_fresh = fresh_own
 
 pub known_fresh : Known fresh_tree empty
 known_fresh = record { whole = whole_fresh; sound = sound_fresh; same = same_fresh; queue = queued_fresh; backed = backed_fresh; right = right_fresh }

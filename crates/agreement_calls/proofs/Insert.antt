@@ -1,7 +1,8 @@
 -- An accepted insert leaves a tree and a plan that agree.
+use Rattle.index_types.specs.declared.Key.{Key}
 use Rattle.index_types.specs.declared.NodeId.{NodeId}
 use Rattle.std.specs.Prelude.{Ok, None, Some, Option}
-use mathlib.Core.Path.{◌≡◌, refl, sym, ap, subst, ◌∙◌}
+use mathlib.Core.Path.{◌≡◌, sym, ap, subst, ◌∙◌}
 use mathlib.Core.Bool.{true, false, ◌&&◌, ◌||◌, cond}
 use mathlib.Core.List.{reverse}
 use Prim.Native.Nat.{ℕ, suc, ◌+◌, ◌-◌, ◌<◌}
@@ -9,22 +10,23 @@ use native.Mathlib.Numerals.{add-one}
 use native.Mathlib.Omega.{arith}
 use native.Mathlib.Decide.{ℕ_discrete}
 use lib.Dec.{eqb}
-use lib.IntN.{pos}
-use lib.ListN.{get_or, take}
+use lib.ListN.{take}
 use lib.Seq.{get_or-set_same, get_or-set_other}
 use Rattle.counting.specs.Times.{times}
 use Rattle.counting.proofs.Counting.{hit}
 use Rattle.counting.proofs.Kit.{contra}
 use Rattle.tree_types.specs.declared.LocalNode.{LocalNode}
-use Rattle.tree_types.specs.Local.{stored, empty_rect}
-use Rattle.node_tables.specs.Tables.{kind_of}
-use Rattle.node_tables.proofs.Laws.{rect_same, rect_other, insets_same, insets_other, affine_same, affine_other, clip_same, clip_other}
+use Rattle.tree_types.specs.Local.{stored}
+use Rattle.tree_state.specs.Locals.{record_of}
+use Rattle.tree_state.proofs.Locals.{local_back, record_same, record_other}
 use Rattle.link_forest.specs.Forest.{leaf, has}
+use Rattle.tree_state.specs.declared.WorldNode.{WorldNode}
 use Rattle.tree_state.specs.declared.Tree.{Tree}
+use Rattle.tree_state.specs.Worlds.{place_of}
 use Rattle.tree_state.specs.Tree.{local_at, generation_at}
 use Rattle.tree_steps.specs.Structure.{parent_live, insert_verdict, slot_of, generation_of, insert_tree}
 use Rattle.tree_invariant.proofs.calls.Accepted.{insert_accepted}
-use Rattle.tree_invariant.proofs.calls.Insert.{keep_insert}
+use Rattle.tree_invariant.proofs.calls.Insert.{insert_world_other, keep_insert, insert_key, insert_dirty_other, insert_committed_other, insert_dirty_new, insert_committed_new}
 use Rattle.tree_invariant.proofs.calls.Links.{new_lacks, insert_links}
 use Rattle.tree_laws.proofs.Taken.{new_low}
 use Rattle.plan.specs.Lists.{put}
@@ -119,63 +121,23 @@ module _ (t : Tree) (p : Plan) (K : Known t p) (o : Option NodeId) (v : LocalNod
   -- ---- the new node's records, and the others'
   local_here : local_at T x ≡ stored v
   unfolding insert_tree local_at
-  local_here =
-      let L = t.locals in
-      let W = K.whole.locals in
-      let l = low in
-      let u = stored v in
-      rw (
-        rect_same L.bounds x u.local_bounds (omega (arith, W.bounds)),
-        insets_same L.slop x u.hit_slop (omega (arith, W.slop)),
-        affine_same L.transform x u.local_transform (omega (arith, W.transform)),
-        get_or-set_same L.kind x (kind_of u.local_clip) 0 (omega (arith, W.kind)),
-        clip_same L.clip x u.local_clip (omega (arith, W.clip)),
-        get_or-set_same L.level x u.z_index (pos 0) (omega (arith, W.level)),
-        get_or-set_same L.flags x u.flags.0 0 (omega (arith, W.flags)),
-      )
+  local_here = record_same t.locals x (record_of (stored v)) K.whole.locals low ∙ local_back (stored v)
 
   local_there : (y : ℕ) → (y ≡ x → ⊥) → local_at T y ≡ local_at t y
   unfolding insert_tree local_at
-  local_there y n =
-      let L = t.locals in
-      let u = stored v in
-      rw (
-        rect_other L.bounds x u.local_bounds y n,
-        insets_other L.slop x u.hit_slop y n,
-        affine_other L.transform x u.local_transform y n,
-        get_or-set_other L.kind x y (kind_of u.local_clip) 0 n,
-        clip_other L.clip x u.local_clip (get_or L.kind y 0) y n,
-        get_or-set_other L.level x y u.z_index (pos 0) n,
-        get_or-set_other L.flags x y u.flags.0 0 n,
-      )
+  local_there y n = record_other t.locals x (record_of (stored v)) y n
 
   mark_here : mark_of T x ≡ changed_in_both
-  unfolding insert_tree
-  mark_here =
-      let W = K.whole.marks in
-      let l = low in
-      rw (
-        get_or-set_same t.marks.marked x true false (omega (arith, W.marked)),
-        get_or-set_same t.marks.transform x true false (omega (arith, W.transform)),
-        get_or-set_same t.marks.clip x true false (omega (arith, W.clip)),
-      )
+  mark_here = rw (insert_dirty_new t o v K.whole K.sound e)
 
   mark_there : (y : ℕ) → (y ≡ x → ⊥) → mark_of T y ≡ mark_of t y
-  unfolding insert_tree
-  mark_there y n =
-      rw (
-        get_or-set_other t.marks.marked x y true false n,
-        get_or-set_other t.marks.transform x y true false n,
-        get_or-set_other t.marks.clip x y true false n,
-      )
+  mark_there y n = rw (insert_dirty_other t o v y n)
 
   entry_here : entry_of T x ≡ without
-  unfolding insert_tree
-  entry_here = let l = low in rw (get_or-set_same t.keys.committed x false false (omega (arith, K.whole.keys.committed)))
+  entry_here = rw (insert_committed_new t o v K.whole K.sound e)
 
   entry_there : (y : ℕ) → (y ≡ x → ⊥) → entry_of T y ≡ entry_of t y
-  unfolding insert_tree
-  entry_there y n = rw (get_or-set_other t.keys.committed x y false false n)
+  entry_there y n = rw (insert_committed_other t o v y n, insert_key t o v y)
 
   pub was : (y : ℕ) → (y ≡ x → ⊥) → has y P.links ≡ true → has y p.links ≡ true
   was y n h = leaf_onto o x p.links parent new y n h
@@ -228,9 +190,9 @@ module _ (t : Tree) (p : Plan) (K : Known t p) (o : Option NodeId) (v : LocalNod
         unmarked = ap (λ (q : Mark). q.marked) (sym (put_other p.mark x changed_in_both y n)) ∙ u;
         bounds = ap (λ (w : LocalNode). w.local_bounds) l;
         slop = ap (λ (w : LocalNode). w.hit_slop) l;
-        stored_bounds_lem = rect_other t.worlds.bounds x empty_rect y n;
-        stored_hit_bounds_lem = rect_other t.worlds.hit_bounds x empty_rect y n;
-        entry = refl;
+        stored_bounds_lem = ap (λ (w : WorldNode). w.bounds) (insert_world_other t o v y n);
+        stored_hit_bounds_lem = ap (λ (w : WorldNode). w.hit_bounds) (insert_world_other t o v y n);
+        entry = rw (ap (λ (k : Key). k.0) (insert_key t o v y));
       }
 
   still : Still t p T P
@@ -239,7 +201,7 @@ module _ (t : Tree) (p : Plan) (K : Known t p) (o : Option NodeId) (v : LocalNod
       record {
         path = λ y h s. let w = was y (other y (settled_itself P y s)) h in (w, leaf_above o x p.links parent new K.same.links.once y w);
         kept = kept;
-        place = λ y h c. refl;
+        place = λ y h c. ap place_of (insert_world_other t o v y (other y c));
         boxes = λ y h c u. unmoved y c u;
       }
 

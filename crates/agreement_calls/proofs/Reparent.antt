@@ -5,7 +5,6 @@ use mathlib.Core.Bool.{Bool, true, false, ◌&&◌, ◌||◌}
 use Prim.Native.Nat.{ℕ}
 use native.Mathlib.Omega.{arith}
 use native.Mathlib.Decide.{ℕ_discrete}
-use lib.Seq.{get_or-set_same, get_or-set_other}
 use Rattle.counting.specs.Times.{times}
 use Rattle.index_types.specs.declared.NodeId.{NodeId}
 use Rattle.link_forest.specs.Forest.{Forest, has, Distinct, remove, part}
@@ -14,7 +13,7 @@ use Rattle.tree_state.specs.declared.Tree.{Tree}
 use Rattle.tree_state.specs.Tree.{local_at}
 use Rattle.tree_steps.specs.Structure.{reparent_verdict, reparent_tree}
 use Rattle.tree_invariant.proofs.calls.Accepted.{reparent_accepted}
-use Rattle.tree_invariant.proofs.calls.Reparent.{keep_reparent}
+use Rattle.tree_invariant.proofs.calls.Reparent.{keep_reparent, reparent_dirty_new, reparent_dirty_other}
 use Rattle.tree_invariant.proofs.calls.Links.{reparent_links}
 use Rattle.tree_laws.proofs.Ground.{live_has, low}
 use Rattle.plan.specs.Lists.{put}
@@ -63,24 +62,10 @@ module _ (t : Tree) (p : Plan) (K : Known t p) (i : NodeId) (o : Option NodeId) 
   was y h = sym (moved_has o x f once live parent y) ∙ h
 
   mark_here : mark_of T x ≡ changed_in_both
-  unfolding reparent_tree
-  mark_here =
-      let W = K.whole.marks in
-      let l = low t f K.same.links x live in
-      rw (
-        get_or-set_same t.marks.marked x true false (omega (arith, W.marked)),
-        get_or-set_same t.marks.transform x true false (omega (arith, W.transform)),
-        get_or-set_same t.marks.clip x true false (omega (arith, W.clip)),
-      )
+  mark_here = rw (reparent_dirty_new t x o K.whole (low t f K.same.links x live))
 
   mark_there : (y : ℕ) → (y ≡ x → ⊥) → mark_of T y ≡ mark_of t y
-  unfolding reparent_tree
-  mark_there y n =
-      rw (
-        get_or-set_other t.marks.marked x y true false n,
-        get_or-set_other t.marks.transform x y true false n,
-        get_or-set_other t.marks.clip x y true false n,
-      )
+  mark_there y n = rw (reparent_dirty_other t x o K.whole (low t f K.same.links x live) y n)
 
   same : Same T P
   unfolding local_at

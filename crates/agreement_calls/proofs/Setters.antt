@@ -2,13 +2,12 @@
 use Rattle.std.specs.Prelude.{Ok}
 use mathlib.Core.Path.{◌≡◌, refl, sym, ap, subst, ◌∙◌}
 use mathlib.Core.Bool.{Bool, true, false, ◌&&◌, ◌||◌}
+use mathlib.Core.List.{List}
 use Prim.Native.Nat.{ℕ, ◌<◌}
-use native.Mathlib.Omega.{arith}
 use native.Mathlib.Decide.{ℕ_discrete}
 use lib.Dec.{eqb}
-use lib.IntN.{ℤ, pos}
-use lib.ListN.{get_or, set}
-use lib.Seq.{get_or-set_same, get_or-set_other}
+use mathlib.Core.List.{List}
+use lib.IntN.{ℤ}
 use Rattle.counting.proofs.Kit.{contra}
 use Rattle.numbers.proofs.Bools.{and_left}
 use Rattle.geometry.specs.declared.rect.Rect.{Rect}
@@ -22,20 +21,21 @@ use Rattle.index_types.specs.declared.NodeId.{NodeId}
 use Rattle.tree_types.specs.declared.NodeFlags.{NodeFlags}
 use Rattle.tree_types.specs.declared.LocalNode.{LocalNode}
 use Rattle.tree_types.specs.Local.{known, with_transform, with_clip, with_bounds, with_slop, with_level, with_flags}
-use Rattle.node_tables.specs.Tables.{rect_at, insets_at, affine_at, kind_of}
-use Rattle.node_tables.proofs.Laws.{rect_same, rect_other, insets_same, insets_other, affine_same, affine_other, clip_same, clip_other}
 use Rattle.link_forest.specs.Forest.{has}
-use Rattle.tree_state.specs.declared.Locals.{Locals}
-use Rattle.tree_state.specs.declared.Marks.{Marks}
+use Rattle.tree_state.specs.declared.Local.{Local}
+use Rattle.tree_state.specs.declared.Dirty.{Dirty}
 use Rattle.tree_state.specs.declared.Tree.{Tree}
 use Rattle.tree_state.specs.declared.Refusal.{Refusal}
 use Rattle.tree_state.specs.declared.Refusal.TheVariants as no
+use Rattle.tree_state.specs.Locals.{record_at, put_clip}
+use Rattle.tree_state.proofs.Locals.{clip_stored, record_same, record_other}
 use Rattle.tree_state.specs.Tree as tree
-use Rattle.tree_state.specs.Tree.{local_at, clip_of, checked}
+use Rattle.tree_state.specs.Tree.{local_at, clip_of, dirty, checked}
 use Rattle.tree_state.specs.Sound.{SoundTree}
 use Rattle.tree_steps.specs.Setters as set
 use Rattle.tree_steps.specs.Setters.{held, of_node, with_locals, store_transform, store_clip, store_bounds, store_slop, store_level, store_flags, unless, set_transform, set_clip, set_bounds, set_slop, set_level, set_flags, transform_verdict, clip_verdict, bounds_verdict, slop_verdict, flags_verdict}
 use Rattle.tree_invariant.proofs.calls.Accepted.{checked_both}
+use Rattle.tree_invariant.proofs.calls.Marks as marks
 use Rattle.tree_invariant.proofs.calls.Setters.{keep_set_transform, keep_set_clip, keep_set_bounds, keep_set_slop, keep_set_level, keep_set_flags}
 use Rattle.tree_state.specs.Whole.{Whole}
 use Rattle.tree_laws.proofs.Ground.{low}
@@ -62,7 +62,7 @@ module _ (t : Tree) (p : Plan) (K : Known t p) where
 
 -- ---- new local records and marks, of one node
 
-pub record Sets (t : Tree) (p : Plan) (x : ℕ) (l : Locals) (m : Marks) (v : LocalNode) (k : Mark) : Type 0 where
+pub record Sets (t : Tree) (p : Plan) (x : ℕ) (l : List Local) (m : List Dirty) (v : LocalNode) (k : Mark) : Type 0 where
   pub local_here : local_at (with_locals t l m) x ≡ v
   pub local_there : (y : ℕ) → (y ≡ x → ⊥) → local_at (with_locals t l m) y ≡ local_at t y
   pub mark_here : mark_of (with_locals t l m) x ≡ k
@@ -74,7 +74,7 @@ pub record Sets (t : Tree) (p : Plan) (x : ℕ) (l : Locals) (m : Marks) (v : Lo
   pub unmoved : k.marked ≡ false
       → ((p.mark x).marked ≡ false) × (v.local_bounds ≡ (p.local x).local_bounds) × (v.hit_slop ≡ (p.local x).hit_slop)
 
-module _ (t : Tree) (p : Plan) (K : Known t p) (x : ℕ) (l : Locals) (m : Marks) (v : LocalNode) (k : Mark) (S : Sets t p x l m v k) where
+module _ (t : Tree) (p : Plan) (K : Known t p) (x : ℕ) (l : List Local) (m : List Dirty) (v : LocalNode) (k : Mark) (S : Sets t p x l m v k) where
   abbrev T : Tree
   T = with_locals t l m
 
@@ -173,7 +173,8 @@ module _ (t : Tree) (p : Plan) (K : Known t p) (x : ℕ) (l : Locals) (m : Marks
       record { whole = w; sound = s; same = set_same; queue = K.queue; backed = K.backed; right = still_right t p T P set_still K.right }
 
 -- an equal value changes nothing on both sides
-unless_known : (t : Tree) (p : Plan) (K : Known t p) (x : ℕ) (l : Locals) (m : Marks) (v : LocalNode) (g : Mark → Mark) (S : Sets t p x l m v (g (p.mark x)))
+unless_known : (t : Tree) (p : Plan) (K : Known t p) (x : ℕ) (l : List Local) (m : List Dirty) (v : LocalNode) (g : Mark → Mark)
+    (S : Sets t p x l m v (g (p.mark x)))
     (a b : Bool) → a ≡ b → Whole (unless a t (with_locals t l m)) → SoundTree (unless a t (with_locals t l m))
     → Known (unless a t (with_locals t l m)) (set_unless b p x v g)
 unless_known t p K x l m v g S true true e w s = K
@@ -197,33 +198,24 @@ in_clip false e = absurd (contra refl e)
 marked : {A : Type 0} → ◌≡◌ {A = Bool} true false → A
 marked e = absurd (contra refl e)
 
-module _ (t : Tree) (w : Whole t) (x : ℕ) (h : x < 256) (l : Locals) where
+module _ (t : Tree) (w : Whole t) (x : ℕ) (h : x < 256) (l : List Local) where
   alone_here : mark_of (with_locals t l (set.mark_alone t.marks x)) x ≡ plan.mark_alone (mark_of t x)
-  alone_here = rw (get_or-set_same t.marks.marked x true false (omega (arith, w.marks.marked)))
+  alone_here = rw (marks.dirty_here t.marks x w.marks h (set.marked_alone (dirty t.marks x)))
 
   transform_here : mark_of (with_locals t l (set.mark_transform t.marks x)) x ≡ plan.mark_transform (mark_of t x)
-  transform_here =
-      rw (
-        get_or-set_same t.marks.marked x true false (omega (arith, w.marks.marked)),
-        get_or-set_same t.marks.transform x true false (omega (arith, w.marks.transform)),
-      )
+  transform_here = rw (marks.dirty_here t.marks x w.marks h (set.marked_transform (dirty t.marks x)))
 
   clip_here : mark_of (with_locals t l (set.mark_clip t.marks x)) x ≡ plan.mark_clip (mark_of t x)
-  clip_here =
-      rw (
-        get_or-set_same t.marks.marked x true false (omega (arith, w.marks.marked)),
-        get_or-set_same t.marks.clip x true false (omega (arith, w.marks.clip)),
-      )
+  clip_here = rw (marks.dirty_here t.marks x w.marks h (set.marked_clip (dirty t.marks x)))
 
-module _ (t : Tree) (x : ℕ) (l : Locals) (y : ℕ) (n : y ≡ x → ⊥) where
-  alone_there : mark_of (with_locals t l (set.mark_alone t.marks x)) y ≡ mark_of t y
-  alone_there = rw (get_or-set_other t.marks.marked x y true false n)
+  alone_there : (y : ℕ) → (y ≡ x → ⊥) → mark_of (with_locals t l (set.mark_alone t.marks x)) y ≡ mark_of t y
+  alone_there y n = rw ((marks.alone t.marks x w.marks h).other y n)
 
-  transform_there : mark_of (with_locals t l (set.mark_transform t.marks x)) y ≡ mark_of t y
-  transform_there = rw (get_or-set_other t.marks.marked x y true false n, get_or-set_other t.marks.transform x y true false n)
+  transform_there : (y : ℕ) → (y ≡ x → ⊥) → mark_of (with_locals t l (set.mark_transform t.marks x)) y ≡ mark_of t y
+  transform_there y n = rw ((marks.in_transform t.marks x w.marks h).other y n)
 
-  clip_there : mark_of (with_locals t l (set.mark_clip t.marks x)) y ≡ mark_of t y
-  clip_there = rw (get_or-set_other t.marks.marked x y true false n, get_or-set_other t.marks.clip x y true false n)
+  clip_there : (y : ℕ) → (y ≡ x → ⊥) → mark_of (with_locals t l (set.mark_clip t.marks x)) y ≡ mark_of t y
+  clip_there y n = rw ((marks.in_clip t.marks x w.marks h).other y n)
 
 -- ---- the six
 
@@ -237,16 +229,19 @@ module _ (t : Tree) (p : Plan) (K : Known t p) (x : ℕ) (live : has x p.links �
   mark : mark_of t x ≡ p.mark x
   mark = K.same.mark x live
 
+  abbrev now : Local
+  now = record_at t.locals x
+
   sets_transform : (a : Affine)
       → Sets t p x (store_transform t.locals x a) (set.mark_transform t.marks x) (with_transform a (p.local x)) (plan.mark_transform (p.mark x))
   unfolding local_at
   sets_transform a =
-      let h = below in
+      let r = record now { transform = a } in
       record {
-        local_here = rw (affine_same t.locals.transform x a (omega (arith, K.whole.locals.transform))) (ap (with_transform a) local);
-        local_there = λ y n. rw (affine_other t.locals.transform x a y n);
-        mark_here = transform_here t K.whole x h (store_transform t.locals x a) ∙ ap plan.mark_transform mark;
-        mark_there = transform_there t x (store_transform t.locals x a);
+        local_here = record_same t.locals x r K.whole.locals below ∙ ap (with_transform a) local;
+        local_there = record_other t.locals x r;
+        mark_here = transform_here t K.whole x below (store_transform t.locals x a) ∙ ap plan.mark_transform mark;
+        mark_there = transform_there t K.whole x below (store_transform t.locals x a);
         kept = λ e. in_transform (p.mark x).clip e;
         unmoved = λ e. marked e;
       }
@@ -254,26 +249,25 @@ module _ (t : Tree) (p : Plan) (K : Known t p) (x : ℕ) (live : has x p.links �
   sets_clip : (c : Clip) → Sets t p x (store_clip t.locals x c) (set.mark_clip t.marks x) (with_clip c (p.local x)) (plan.mark_clip (p.mark x))
   unfolding local_at
   sets_clip c =
-      let h = below in
-      let L = t.locals in
+      let r = put_clip c now in
       record {
-        local_here = rw (get_or-set_same L.kind x (kind_of c) 0 (omega (arith, K.whole.locals.kind)), clip_same L.clip x c (omega (arith, K.whole.locals.clip))) (ap (with_clip c) local);
-        local_there = λ y n. rw (get_or-set_other L.kind x y (kind_of c) 0 n, clip_other L.clip x c (get_or L.kind y 0) y n);
-        mark_here = clip_here t K.whole x h (store_clip L x c) ∙ ap plan.mark_clip mark;
-        mark_there = clip_there t x (store_clip L x c);
+        local_here = record_same t.locals x r K.whole.locals below ∙ clip_stored c now ∙ ap (with_clip c) local;
+        local_there = record_other t.locals x r;
+        mark_here = clip_here t K.whole x below (store_clip t.locals x c) ∙ ap plan.mark_clip mark;
+        mark_there = clip_there t K.whole x below (store_clip t.locals x c);
         kept = λ e. in_clip (p.mark x).transform e;
         unmoved = λ e. marked e;
       }
 
-  sets_bounds : (r : Rect) → Sets t p x (store_bounds t.locals x r) (set.mark_alone t.marks x) (with_bounds r (p.local x)) (plan.mark_alone (p.mark x))
+  sets_bounds : (b : Rect) → Sets t p x (store_bounds t.locals x b) (set.mark_alone t.marks x) (with_bounds b (p.local x)) (plan.mark_alone (p.mark x))
   unfolding local_at
-  sets_bounds r =
-      let h = below in
+  sets_bounds b =
+      let r = record now { bounds = b } in
       record {
-        local_here = rw (rect_same t.locals.bounds x r (omega (arith, K.whole.locals.bounds))) (ap (with_bounds r) local);
-        local_there = λ y n. rw (rect_other t.locals.bounds x r y n);
-        mark_here = alone_here t K.whole x h (store_bounds t.locals x r) ∙ ap plan.mark_alone mark;
-        mark_there = alone_there t x (store_bounds t.locals x r);
+        local_here = record_same t.locals x r K.whole.locals below ∙ ap (with_bounds b) local;
+        local_there = record_other t.locals x r;
+        mark_here = alone_here t K.whole x below (store_bounds t.locals x b) ∙ ap plan.mark_alone mark;
+        mark_there = alone_there t K.whole x below (store_bounds t.locals x b);
         kept = λ e. (changed_none (p.mark x).marked (p.mark x).transform (p.mark x).clip e, refl, refl);
         unmoved = λ e. marked e;
       }
@@ -281,12 +275,12 @@ module _ (t : Tree) (p : Plan) (K : Known t p) (x : ℕ) (live : has x p.links �
   sets_slop : (s : Insets) → Sets t p x (store_slop t.locals x s) (set.mark_alone t.marks x) (with_slop s (p.local x)) (plan.mark_alone (p.mark x))
   unfolding local_at
   sets_slop s =
-      let h = below in
+      let r = record now { slop = s } in
       record {
-        local_here = rw (insets_same t.locals.slop x s (omega (arith, K.whole.locals.slop))) (ap (with_slop s) local);
-        local_there = λ y n. rw (insets_other t.locals.slop x s y n);
-        mark_here = alone_here t K.whole x h (store_slop t.locals x s) ∙ ap plan.mark_alone mark;
-        mark_there = alone_there t x (store_slop t.locals x s);
+        local_here = record_same t.locals x r K.whole.locals below ∙ ap (with_slop s) local;
+        local_there = record_other t.locals x r;
+        mark_here = alone_here t K.whole x below (store_slop t.locals x s) ∙ ap plan.mark_alone mark;
+        mark_there = alone_there t K.whole x below (store_slop t.locals x s);
         kept = λ e. (changed_none (p.mark x).marked (p.mark x).transform (p.mark x).clip e, refl, refl);
         unmoved = λ e. marked e;
       }
@@ -294,10 +288,10 @@ module _ (t : Tree) (p : Plan) (K : Known t p) (x : ℕ) (live : has x p.links �
   sets_level : (z : ℤ) → Sets t p x (store_level t.locals x z) t.marks (with_level z (p.local x)) (p.mark x)
   unfolding local_at
   sets_level z =
-      let h = below in
+      let r = record now { level = z } in
       record {
-        local_here = rw (get_or-set_same t.locals.level x z (pos 0) (omega (arith, K.whole.locals.level))) (ap (with_level z) local);
-        local_there = λ y n. rw (get_or-set_other t.locals.level x y z (pos 0) n);
+        local_here = record_same t.locals x r K.whole.locals below ∙ ap (with_level z) local;
+        local_there = record_other t.locals x r;
         mark_here = mark;
         mark_there = λ y n. refl;
         kept = λ e. (e, refl, refl);
@@ -307,10 +301,10 @@ module _ (t : Tree) (p : Plan) (K : Known t p) (x : ℕ) (live : has x p.links �
   sets_flags : (f : NodeFlags) → Sets t p x (store_flags t.locals x f) t.marks (with_flags f (p.local x)) (p.mark x)
   unfolding local_at
   sets_flags f =
-      let h = below in
+      let r = record now { flags = f } in
       record {
-        local_here = rw (get_or-set_same t.locals.flags x f.0 0 (omega (arith, K.whole.locals.flags))) (ap (with_flags f) local);
-        local_there = λ y n. rw (get_or-set_other t.locals.flags x y f.0 0 n);
+        local_here = record_same t.locals x r K.whole.locals below ∙ ap (with_flags f) local;
+        local_there = record_other t.locals x r;
         mark_here = mark;
         mark_there = λ y n. refl;
         kept = λ e. (e, refl, refl);
@@ -318,7 +312,7 @@ module _ (t : Tree) (p : Plan) (K : Known t p) (x : ℕ) (live : has x p.links �
       }
 
   -- what is compared
-  same_transform : affine_at t.locals.transform x ≡ (p.local x).local_transform
+  same_transform : (record_at t.locals x).transform ≡ (p.local x).local_transform
   unfolding local_at
   same_transform = ap (λ (w : LocalNode). w.local_transform) local
 
@@ -326,11 +320,11 @@ module _ (t : Tree) (p : Plan) (K : Known t p) (x : ℕ) (live : has x p.links �
   unfolding local_at
   same_clip = ap (λ (w : LocalNode). w.local_clip) local
 
-  same_bounds : rect_at t.locals.bounds x ≡ (p.local x).local_bounds
+  same_bounds : (record_at t.locals x).bounds ≡ (p.local x).local_bounds
   unfolding local_at
   same_bounds = ap (λ (w : LocalNode). w.local_bounds) local
 
-  same_slop : insets_at t.locals.slop x ≡ (p.local x).hit_slop
+  same_slop : (record_at t.locals x).slop ≡ (p.local x).hit_slop
   unfolding local_at
   same_slop = ap (λ (w : LocalNode). w.hit_slop) local
 
@@ -343,7 +337,7 @@ module _ (t : Tree) (p : Plan) (K : Known t p) (i : NodeId) where
       let k = keep_set_transform t i a K.whole K.sound e in
       let live = of_value_lem t p K i (finite_affine a) no.NotFinite e in
       unless_known t p K x (store_transform t.locals x a) (set.mark_transform t.marks x) (with_transform a (p.local x)) plan.mark_transform
-      (sets_transform t p K x live a) (affine_eq (affine_at t.locals.transform x) a) (affine_eq (p.local x).local_transform a)
+      (sets_transform t p K x live a) (affine_eq (record_at t.locals x).transform a) (affine_eq (p.local x).local_transform a)
       (ap (λ (b : Affine). affine_eq b a) (same_transform t p K x live)) k.0 k.1
 
   pub clip_known : (c : Clip) → clip_verdict t i c ≡ Ok tt
@@ -365,7 +359,7 @@ module _ (t : Tree) (p : Plan) (K : Known t p) (i : NodeId) where
       let k = keep_set_bounds t i r K.whole K.sound e in
       let live = of_value_lem t p K i (finite_rect r) no.NotFinite e in
       unless_known t p K x (store_bounds t.locals x r) (set.mark_alone t.marks x) (with_bounds r (p.local x)) plan.mark_alone
-      (sets_bounds t p K x live r) (rect_eq (rect_at t.locals.bounds x) r) (rect_eq (p.local x).local_bounds r)
+      (sets_bounds t p K x live r) (rect_eq ((record_at t.locals x).bounds) r) (rect_eq (p.local x).local_bounds r)
       (ap (λ (b : Rect). rect_eq b r) (same_bounds t p K x live)) k.0 k.1
 
   pub slop_known : (v : Insets) → slop_verdict t i v ≡ Ok tt
@@ -376,7 +370,7 @@ module _ (t : Tree) (p : Plan) (K : Known t p) (i : NodeId) where
       let k = keep_set_slop t i v K.whole K.sound e in
       let live = of_value_lem t p K i (finite_insets v) no.NotFinite e in
       unless_known t p K x (store_slop t.locals x v) (set.mark_alone t.marks x) (with_slop v (p.local x)) plan.mark_alone
-      (sets_slop t p K x live v) (insets_eq (insets_at t.locals.slop x) v) (insets_eq (p.local x).hit_slop v)
+      (sets_slop t p K x live v) (insets_eq ((record_at t.locals x).slop) v) (insets_eq (p.local x).hit_slop v)
       (ap (λ (b : Insets). insets_eq b v) (same_slop t p K x live)) k.0 k.1
 
   pub level_known : (z : ℤ) → of_node t i ≡ Ok tt

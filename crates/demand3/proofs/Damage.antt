@@ -4,14 +4,14 @@ use Rattle.std.specs.Prelude.{Ok, Err, Option}
 use mathlib.Core.Path.{◌≡◌, refl, sym, ap, ap₂, subst, ◌∙◌}
 use mathlib.Core.Bool.{Bool, true, false, not, ◌||◌, cond}
 use mathlib.Core.List.{List, [], ◌∷◌, ◌++◌, map, append-nil, append_assoc}
+use Rattle.std.proofs.lemmas.List.{take_more_set}
 use Prim.Native.Nat.{ℕ, zero, suc, ◌+◌, ◌*◌, ◌≤◌, ◌<◌}
-use native.Mathlib.Numerals.{add-one}
 use native.Mathlib.Omega.{arith}
 use native.Mathlib.Decide.{ℕ_discrete}
 use borrow.Author.Tests.{ltb-false, not-true}
 use lib.Dec.{eqb, ltb}
 use lib.Ieee.{Float}
-use lib.ListN.{length, drop, length-append, length-drop}
+use lib.ListN.{length, get_or, take, drop, length-append, length-drop, length-set}
 use lib.Seq.{drop-append_seam}
 use Rattle.counting.specs.Times.{tally, times}
 use Rattle.counting.proofs.Counting.{hit}
@@ -24,16 +24,17 @@ use Rattle.index_types.specs.declared.NodeId.{NodeId}
 use Rattle.tree_types.specs.declared.LocalNode.{LocalNode}
 use Rattle.tree_types.specs.Local as local
 use Rattle.tree_types.specs.Local.{empty_rect}
-use Rattle.node_tables.specs.Tables.{rect_at, put_rect, insets_at, affine_at}
-use Rattle.node_tables.proofs.Laws.{rect_same, rect_other, rect_length}
+use Rattle.tree_types.specs.rooms.Rooms.{rect_at}
 use Rattle.link_forest.specs.Forest.{Forest, has, post, part}
 use Rattle.link_forest.proofs.Counting.{count_has}
-use Rattle.tree_state.specs.declared.Locals.{Locals}
-use Rattle.tree_state.specs.declared.Worlds.{Worlds}
-use Rattle.tree_state.specs.declared.Marks.{Marks}
+use Rattle.tree_state.specs.declared.Local.{Local}
+use Rattle.tree_state.specs.Locals.{record_at}
+use Rattle.tree_state.specs.declared.WorldNode.{WorldNode}
+use Rattle.tree_state.specs.declared.Dirty.{Dirty}
 use Rattle.tree_state.specs.declared.Pending.{Pending}
 use Rattle.tree_state.specs.declared.Tree.{Tree}
 use Rattle.tree_state.specs.declared.Refusal.TheVariants as no
+use Rattle.tree_state.specs.Worlds.{no_world}
 use Rattle.tree_state.specs.Tree.{fresh_tree, number_in, position_of, clip_of, stored_bounds, needs_commit, Verdict}
 use Rattle.tree_state.specs.Sound.{SoundTree, count_of}
 use Rattle.tree_steps.specs.Setters as set
@@ -42,13 +43,13 @@ use Rattle.tree_steps.specs.Structure as structure
 use Rattle.tree_steps.specs.Structure.{push_rect}
 use Rattle.tree_commit.specs.Commit.{commit_call, after_work, commit_room, room_after}
 use Rattle.tree_damage.proofs.Front.{rects_front, numbers_length, union_front}
-use Rattle.tree_state.specs.Whole.{Whole, WholeWorlds}
+use Rattle.tree_state.specs.Whole.{Whole}
 use Rattle.tree_laws.proofs.Ground.{Linked, low, slot_live}
 use Rattle.tree_visits.proofs.Laws.{visits_low}
 use Rattle.tree_visits.proofs.Slots.{slots_once}
 use Rattle.agreement.proofs.Same.{Known}
 use Rattle.agreement.proofs.worlds.Visits.{slot_at, visited}
-use Rattle.agreement.proofs.worlds.Turn.{bounds_now, bounds_stay, whole_worlds}
+use Rattle.agreement.proofs.worlds.Turn.{bounds_now, world_stays, whole_worlds}
 use Rattle.agreement.proofs.worlds.Committed.{worlds_ran, commit_afresh}
 use Rattle.agreement_calls.proofs.Tests.{needs_same}
 use Rattle.agreement_calls.proofs.Frame.{put_same, put_other}
@@ -56,8 +57,8 @@ use Rattle.agreement_calls.proofs.Verdicts as refused
 use Rattle.agreement_calls.proofs.Setters as setter
 use Rattle.agreement_calls.proofs.commit.Visited.{visited_linked}
 use Rattle.agreement_calls.proofs.commit.Visits.{visits_same}
-use Rattle.tree_invariant.proofs.calls.Accepted.{checked_both, insert_accepted}
-use Rattle.tree_laws.proofs.Taken.{new_low}
+use Rattle.tree_invariant.proofs.calls.Accepted.{checked_both}
+use Rattle.tree_invariant.proofs.calls.Insert.{insert_world_other, insert_world_new}
 use Rattle.tree_invariant.proofs.remove.Counts.{joined_same}
 use Rattle.tree_invariant.proofs.remove.Keep as kept
 use Rattle.tree_invariant.specs.remove.Removals.{pending_all}
@@ -86,10 +87,10 @@ rests [] k y z = refl
 rests (i ∷ is) k y z =
     let x = slot_at k.tree.links i in
     let apart : y ≡ x → ⊥ = λ e. let one : tally (eqb y x) ≡ 1 = rw e (hit x) in omega arith in
-    rests is (rework k i) y (omega arith) ∙ bounds_stay k.tree x (new_place k.tree i x) y apart
+    rests is (rework k i) y (omega arith) ∙ ap (λ (v : WorldNode). v.bounds) (world_stays k.tree x (new_place k.tree i x) y apart)
 
 -- each turn adds its node's box before all turns and the one after them
-turns : (is : List ℕ) (k : Work) → WholeWorlds k.tree.worlds → ((i : ℕ) → 1 ≤ times i is → slot_at k.tree.links i < 256)
+turns : (is : List ℕ) (k : Work) → length k.tree.worlds ≡ 256 → ((i : ℕ) → 1 ≤ times i is → slot_at k.tree.links i < 256)
     → ((y : ℕ) → times y (map (slot_at k.tree.links) is) ≤ 1)
     → (rework_all k is).damage ≡ k.damage ++ joined (λ x. damage_of (stored_bounds k.tree x) (stored_bounds (rework_all k is).tree x)) (map (slot_at k.tree.links) is)
 unfolding rework_all rework times joined
@@ -105,7 +106,7 @@ turns (i ∷ is) k W l once =
     turns is (rework k i) (whole_worlds t x w W small) (λ j h. l j (omega arith)) (λ y. omega (arith, once y))
     ∙ ap₂ (λ (a b : List Rect). (k.damage ++ a) ++ b) (ap (damage_of (stored_bounds t x)) new)
     (joined_same (λ y. damage_of (stored_bounds (rework k i).tree y) (stored_bounds last y)) (λ y. damage_of (stored_bounds t y) (stored_bounds last y)) xs
-    (λ y h. ap (λ (r : Rect). damage_of r (stored_bounds last y)) (bounds_stay t x w y (λ e. let one : tally (eqb y x) ≡ 1 = rw e (hit x) in omega (arith, once y)))))
+    (λ y h. ap (λ (v : WorldNode). damage_of v.bounds (stored_bounds last y)) (world_stays t x w y (λ e. let one : tally (eqb y x) ≡ 1 = rw e (hit x) in omega (arith, once y)))))
     ∙ append_assoc k.damage _ _
 
 -- ---- a commit
@@ -128,10 +129,14 @@ no_visits p e = rw (none_kept (λ x. (p.mark x).marked) (nodes p) (first (any (�
     first true b e = e
     first false b e = refl
 
+-- the pending rectangles
+abbrev standing : Pending → List Rect
+standing q = take q.count q.rects
+
 -- what was pending, and then of each visited node the box that is stored and the one worked out afresh
 commit_damage : (t : Tree) (p : Plan) → Meets t p
-    → (commit_tree t).damage ≡ rects_of t.pending.rects t.pending.count ++ joined (λ x. damage_of (stored_bounds t x) (world_bounds p x)) (visits p)
-unfolding commit_tree rects_of joined
+    → (commit_tree t).damage ≡ standing t.pending ++ joined (λ x. damage_of (stored_bounds t x) (world_bounds p x)) (visits p)
+unfolding commit_tree joined
 commit_damage t p M = go (needs_commit t) refl
   where
     L : Linked t p.links
@@ -146,10 +151,10 @@ commit_damage t p M = go (needs_commit t) refl
     fresh : (y : ℕ) → 1 ≤ times y (visited t) → stored_bounds (rework_all (begun t) (visits_of t)).tree y ≡ world_bounds p y
     fresh y h = ((worlds_ran t p M.known M.entered (visited_linked t p.links L)).fresh y h).bounds
 
-    go : (b : Bool) → needs_commit t ≡ b → (work_for b t).damage ≡ rects_of t.pending.rects t.pending.count ++ joined (λ x. damage_of (stored_bounds t x) (world_bounds p x)) (visits p)
+    go : (b : Bool) → needs_commit t ≡ b → (work_for b t).damage ≡ standing t.pending ++ joined (λ x. damage_of (stored_bounds t x) (world_bounds p x)) (visits p)
     go true e =
         turns (visits_of t) (begun t) M.known.whole.worlds small once
-        ∙ ap (λ (l : List Rect). rects_of t.pending.rects t.pending.count ++ l)
+        ∙ ap (λ (l : List Rect). standing t.pending ++ l)
         (joined_same (λ x. damage_of (stored_bounds t x) (stored_bounds (rework_all (begun t) (visits_of t)).tree x)) (λ x. damage_of (stored_bounds t x) (world_bounds p x)) (visited t)
         (λ y h. ap (damage_of (stored_bounds t y)) (fresh y h))
         ∙ ap (joined (λ x. damage_of (stored_bounds t x) (world_bounds p x))) (visits_same t p M.known))
@@ -159,31 +164,24 @@ commit_damage t p M = go (needs_commit t) refl
 
 -- ---- pending rectangles
 
-rects_before : (l : List Float) (c : ℕ) (r : Rect) (n : ℕ) → n ≤ c → rects_of (put_rect l c r) n ≡ rects_of l n
-unfolding rects_of
-rects_before l c r zero h = refl
-rects_before l c r (suc n) h = rw (rects_before l c r n (omega arith), rect_other l c r n (λ e. omega arith))
-
-pushed : (b : Bool) (q : Pending) (r : Rect) → q.count + tally b ≤ 256 → length q.rects ≡ 1024
-    → (rects_of (push_rect b q r).rects (push_rect b q r).count ≡ rects_of q.rects q.count ++ cond b (r ∷ []) [])
+pushed : (b : Bool) (q : Pending) (r : Rect) → q.count + tally b ≤ 256 → length q.rects ≡ 256
+    → (standing (push_rect b q r) ≡ standing q ++ cond b (r ∷ []) [])
     × ((push_rect b q r).count ≡ q.count + tally b)
-    × (length (push_rect b q r).rects ≡ 1024)
-unfolding rects_of
-pushed false q r h l = (sym (append-nil (rects_of q.rects q.count)), omega arith, l)
-pushed true q r h l =
-    (rw (add-one q.count, rects_before q.rects q.count r q.count (omega arith), rect_same q.rects q.count r (omega arith)), refl, rect_length q.rects q.count r ∙ l)
+    × (length (push_rect b q r).rects ≡ 256)
+pushed false q r h l = (sym (append-nil (standing q)), omega arith, l)
+pushed true q r h l = (take_more_set q.rects q.count r (omega (arith, l)), refl, length-set q.rects q.count r ∙ l)
 
 -- those of the nodes that go, behind those that are there
-all_pushed : (bounds : List Float) (xs : List ℕ) (q : Pending) → q.count + count_of (λ y. has_area (rect_at bounds y)) xs ≤ 256 → length q.rects ≡ 1024
-    → rects_of (pending_all bounds q xs).rects (pending_all bounds q xs).count ≡ rects_of q.rects q.count ++ joined (λ y. if_area (rect_at bounds y)) xs
+all_pushed : (bounds : ℕ → Rect) (xs : List ℕ) (q : Pending) → q.count + count_of (λ y. has_area (bounds y)) xs ≤ 256 → length q.rects ≡ 256
+    → standing (pending_all bounds q xs) ≡ standing q ++ joined (λ y. if_area (bounds y)) xs
 unfolding count_of joined
-all_pushed bounds [] q h l = sym (append-nil (rects_of q.rects q.count))
+all_pushed bounds [] q h l = sym (append-nil (standing q))
 all_pushed bounds (x ∷ xs) q h l =
-    let r = rect_at bounds x in
+    let r = bounds x in
     let one = pushed (has_area r) q r (omega arith) l in
     all_pushed bounds xs (push_rect (has_area r) q r) (omega (arith, one.1)) one.2
-    ∙ ap (λ (m : List Rect). m ++ joined (λ y. if_area (rect_at bounds y)) xs) one.0
-    ∙ append_assoc (rects_of q.rects q.count) (if_area r) (joined (λ y. if_area (rect_at bounds y)) xs)
+    ∙ ap (λ (m : List Rect). m ++ joined (λ y. if_area (bounds y)) xs) one.0
+    ∙ append_assoc (standing q) (if_area r) (joined (λ y. if_area (bounds y)) xs)
 
 -- ---- each has area
 
@@ -229,19 +227,20 @@ areas_read l (suc n) a i h =
 
 record Shows (t : Tree) (p : Plan) (s : Shown) : Type 0 where
   box : (x : ℕ) → has x p.links ≡ true → stored_bounds t x ≡ s.box x
-  gone : rects_of t.pending.rects t.pending.count ≡ s.gone
+  gone : standing t.pending ≡ s.gone
   areas : Areas s.gone
 
 -- the tree's world boxes and pending rectangles stay, and no node comes
 stays : (t u : Tree) (p q : Plan) (s : Shown) → u.worlds ≡ t.worlds → u.pending ≡ t.pending → ((x : ℕ) → has x q.links ≡ true → has x p.links ≡ true) → Shows t p s → Shows u q s
 stays t u p q s w e was H =
     record {
-      box = λ x h. ap (λ (v : Worlds). rect_at v.bounds x) w ∙ H.box x (was x h);
-      gone = ap (λ (v : Pending). rects_of v.rects v.count) e ∙ H.gone;
+      box = λ x h. ap (λ (v : List WorldNode). (get_or v x no_world).bounds) w ∙ H.box x (was x h);
+      gone = ap standing e ∙ H.gone;
       areas = H.areas;
     }
 
-unless_stays : (b : Bool) (t : Tree) (l : Locals) (m : Marks) → ((set.unless b t (set.with_locals t l m)).worlds ≡ t.worlds) × ((set.unless b t (set.with_locals t l m)).pending ≡ t.pending)
+unless_stays : (b : Bool) (t : Tree) (l : List Local) (m : List Dirty)
+    → ((set.unless b t (set.with_locals t l m)).worlds ≡ t.worlds) × ((set.unless b t (set.with_locals t l m)).pending ≡ t.pending)
 unless_stays true t l m = (refl, refl)
 unless_stays false t l m = (refl, refl)
 
@@ -250,7 +249,8 @@ set_was true p x v m y h = h
 set_was false p x v m y h = h
 
 -- a setter, whatever it compares
-shows_set : (b : Bool) (t : Tree) (l : Locals) (n : Marks) (c : Bool) (p : Plan) (x : ℕ) (v : LocalNode) (m : plan.Mark → plan.Mark) (s : Shown) → Shows t p s
+shows_set : (b : Bool) (t : Tree) (l : List Local) (n : List Dirty) (c : Bool) (p : Plan) (x : ℕ) (v : LocalNode) (m : plan.Mark → plan.Mark)
+    (s : Shown) → Shows t p s
     → Shows (set.unless b t (set.with_locals t l n)) (plan.set_unless c p x v m) s
 shows_set b t l n c p x v m s H =
     let u = unless_stays b t l n in
@@ -267,15 +267,12 @@ shows_insert t p s M H o v e = record { box = box; gone = H.gone; areas = H.area
     x : ℕ
     x = structure.slot_of t.slots
 
-    small : x < 256
-    small = new_low t K.whole K.sound (insert_accepted t o v e).room
-
-    box : (y : ℕ) → has y (call.accepted p (call.insert o v)).links ≡ true → rect_at (put_rect t.worlds.bounds x empty_rect) y ≡ put s.box (plan.new_slot p) empty_rect y
+    box : (y : ℕ) → has y (call.accepted p (call.insert o v)).links ≡ true → stored_bounds (structure.insert_tree t o v) y ≡ put s.box (plan.new_slot p) empty_rect y
     box y h =
         rw (← refused.slot_same t p K)
         (elim (ℕ_discrete y x) [
-          | yes q ↦ rw q (rect_same t.worlds.bounds x empty_rect (omega (arith, K.whole.worlds.bounds, small)) ∙ sym (put_same s.box x empty_rect))
-          | no n ↦ rect_other t.worlds.bounds x empty_rect y n ∙ H.box y (inserted_was t p K o v e y h n) ∙ sym (put_other s.box x empty_rect y n)
+          | yes q ↦ rw q (ap (λ (w : WorldNode). w.bounds) (insert_world_new t o v K.whole K.sound e) ∙ sym (put_same s.box x empty_rect))
+          | no n ↦ ap (λ (w : WorldNode). w.bounds) (insert_world_other t o v y n) ∙ H.box y (inserted_was t p K o v e y h n) ∙ sym (put_other s.box x empty_rect y n)
         ])
 
 shows_remove : (t : Tree) (p : Plan) (s : Shown) → Meets t p → Shows t p s → (i : NodeId) → set.of_node t i ≡ Ok tt
@@ -286,8 +283,8 @@ shows_remove t p s M H i e =
     (record {
       box = λ y g. H.box y (removed_was p x h y g);
       gone =
-          all_pushed bounds away t.pending (omega (arith, (kept.sound_after t W S f L x h).pending_fits, pending_count bounds t.pending away)) W.pending
-          ∙ ap₂ (λ (a b : List Rect). a ++ b) H.gone (joined_same (λ y. if_area (rect_at bounds y)) (λ y. if_area (s.box y)) away (λ y n. ap if_area (H.box y (kept.gone_has t W S f L x h y n))));
+          all_pushed (stored_bounds t) away t.pending (omega (arith, (kept.sound_after t W S f L x h).pending_fits, pending_count (stored_bounds t) t.pending away)) W.pending
+          ∙ ap₂ (λ (a b : List Rect). a ++ b) H.gone (joined_same (λ y. if_area (stored_bounds t y)) (λ y. if_area (s.box y)) away (λ y n. ap if_area (H.box y (kept.gone_has t W S f L x h y n))));
       areas = areas_append s.gone (joined (λ y. if_area (s.box y)) away) H.areas (areas_joined (λ y. if_area (s.box y)) (λ y. areas_if (s.box y)) away);
     })
   where
@@ -306,9 +303,6 @@ shows_remove t p s M H i e =
     x : ℕ
     x = i.0
 
-    bounds : List Float
-    bounds = t.worlds.bounds
-
     away : List ℕ
     away = post (part i.0 p.links)
 
@@ -316,11 +310,11 @@ shows_remove t p s M H i e =
     h = setter.of_node_lem t p M.known i e
 
 shows_commit : (t : Tree) (p : Plan) → Meets t p → Shows (commit_tree t).tree (committed p) (record { box = world_bounds p; gone = [] })
-unfolding committed rects_of
+unfolding committed
 shows_commit t p M =
     let A = commit_afresh t p M.known M.entered (visited_linked t p.links M.known.same.links) in
     let none = (commit_calm t (M.known.whole, M.known.sound)).none_pending in
-    record { box = λ x h. (A.boxes x h).bounds; gone = ap (rects_of (commit_tree t).tree.pending.rects) none; areas = tt }
+    record { box = λ x h. (A.boxes x h).bounds; gone = ap (λ (n : ℕ). take n (commit_tree t).tree.pending.rects) none; areas = tt }
 
 accepted_shows : (t : Tree) (p : Plan) (s : Shown) → Meets t p → Shows t p s → (c : Call) → verdict t c ≡ Ok tt → Shows (accepted t c) (call.accepted p c) (shown_after p s c)
 unfolding verdict accepted call.accepted structure.reparent_tree set.set_transform set.set_clip set.set_bounds set.set_slop set.set_level set.set_flags
@@ -331,7 +325,7 @@ accepted_shows t p s M H (call.reparent i o) e =
 accepted_shows t p s M H (call.set_local_transform i a) e =
     let x = i.0 in
     let v = p.local x in
-    shows_set (affine_eq (affine_at t.locals.transform x) a) t (set.store_transform t.locals x a) (set.mark_transform t.marks x)
+    shows_set (affine_eq (record_at t.locals x).transform a) t (set.store_transform t.locals x a) (set.mark_transform t.marks x)
     (affine_eq v.local_transform a) p x (local.with_transform a v) plan.mark_transform s H
 accepted_shows t p s M H (call.set_local_clip i c) e =
     let x = i.0 in
@@ -341,12 +335,12 @@ accepted_shows t p s M H (call.set_local_clip i c) e =
 accepted_shows t p s M H (call.set_local_bounds i r) e =
     let x = i.0 in
     let v = p.local x in
-    shows_set (rect_eq (rect_at t.locals.bounds x) r) t (set.store_bounds t.locals x r) (set.mark_alone t.marks x) (rect_eq v.local_bounds r) p x
+    shows_set (rect_eq ((record_at t.locals x).bounds) r) t (set.store_bounds t.locals x r) (set.mark_alone t.marks x) (rect_eq v.local_bounds r) p x
     (local.with_bounds r v) plan.mark_alone s H
 accepted_shows t p s M H (call.set_hit_slop i w) e =
     let x = i.0 in
     let v = p.local x in
-    shows_set (insets_eq (insets_at t.locals.slop x) w) t (set.store_slop t.locals x w) (set.mark_alone t.marks x) (insets_eq v.hit_slop w) p x
+    shows_set (insets_eq ((record_at t.locals x).slop) w) t (set.store_slop t.locals x w) (set.mark_alone t.marks x) (insets_eq v.hit_slop w) p x
     (local.with_slop w v) plan.mark_alone s H
 accepted_shows t p s M H (call.set_z_index i z) e = stays t (set.set_level t i.0 z) p _ s refl refl (λ y h. h) H
 accepted_shows t p s M H (call.set_flags i f) e = stays t (set.set_flags t i.0 f) p _ s refl refl (λ y h. h) H
@@ -430,7 +424,7 @@ in_room t room rs ok e few areas =
     as_long = omega (arith, length-append (numbers_of rs) (drop (length (numbers_of rs)) room), length-drop (length (numbers_of rs)) room, long, fits, few)
 
 shows_fresh : Shows fresh_tree plan.empty (record { box = λ x. empty_rect; gone = [] })
-unfolding has rects_of fresh_tree
+unfolding has fresh_tree
 shows_fresh = record { box = λ x h. clash (sym h); gone = refl; areas = tt }
 
 pub damage_told : DamageTold

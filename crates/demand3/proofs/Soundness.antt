@@ -139,7 +139,7 @@ never_full t K j h new =
     let ix = (rework_all (begun t) (take j (visits_of t))).tree.index in
     let low = (ready t K.0 K.1 j h).slot_fits new in
     elim (ℕ_discrete ix.frees 0) [
-      | yes z ↦ rw (eq-eqb ix.frees 0 z) (lt-leb 512 ix.used (omega (arith, low, slot_unused ix.generation ix.free ix.frees ix.used z)))
+      | yes z ↦ rw (eq-eqb ix.frees 0 z) (lt-leb 512 ix.used (omega (arith, low, slot_unused ix.entries ix.free ix.frees ix.used z)))
       | no n ↦ rw (ne_eqb ix.frees 0 n)
     ]
 

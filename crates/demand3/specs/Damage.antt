@@ -5,7 +5,7 @@ use Rattle.std.specs.Prelude.{ℕ, zero, suc, ◌*◌, ◌≤◌, ◌<◌, ◌�
 use Rattle.geometry.specs.declared.rect.Rect.{Rect}
 use Rattle.geometry.specs.Rectangle.{has_area}
 use Rattle.tree_types.specs.Local.{empty_rect}
-use Rattle.node_tables.specs.Tables.{rect_at}
+use Rattle.tree_types.specs.rooms.Rooms.{rect_at}
 use Rattle.link_forest.specs.Forest.{post, part}
 use Rattle.tree_state.specs.declared.Tree.{Tree}
 use Rattle.tree_state.specs.Tree.{fresh_tree}

@@ -8,12 +8,12 @@ use lib.Ieee.{Float}
 use Rattle.std.specs.Prelude.{Option, Some, None}
 use Rattle.index_types.specs.declared.Aabb2D.{Aabb2D}
 use Rattle.index_types.specs.declared.Index.{Index}
-use Rattle.index_types.specs.flat_tables.Tables.{box_at}
+use Rattle.index_types.specs.Slots.{entry_in}
 use Rattle.index_sound.specs.Sound.{CountOf, Shaped}
-use Rattle.index_entries.specs.Entries.{previous_at}
+use Rattle.index_entries.specs.Entries.{previous_box}
 use Rattle.index_commit.specs.declared.Change.{Change}
 use Rattle.index_types.specs.declared.Damage.{Damage}
-use Rattle.index_commit.specs.Commit.{Act, rests, adds, moves, drops, act_of, change_of, moved_from, moved_to, boxes_in_front, boxes_with, room_with, count_with, slot_committed, slot_change, Commits, Work, start, work_step, work, worked, Counts, Lays}
+use Rattle.index_commit.specs.Commit.{Act, rests, adds, moves, drops, change_of, moved_from, moved_to, boxes_in_front, boxes_with, room_with, count_with, slot_committed, slot_change, Commits, Work, start, work_act, work_change, work_step, work, worked, Counts, Lays}
 use Rattle.index_commit.proofs.Rooms.{front_push, count_push, count_small, push_length}
 use Rattle.index_commit.proofs.Loop.{work_next, slot_low, drop_room}
 use Rattle.index_commit.proofs.Keep.{Turn, turn}
@@ -21,7 +21,7 @@ use Rattle.index_commit.proofs.Keep.{Turn, turn}
 -- ---- the index once the first i slots of its queue have had their turn
 
 abbrev pub work_at : Index → ℕ → Work
-work_at ix i = work ix.aabb ix.prev (start ix.mark ix.kept ix.free ix.frees ix.backend.present ix.backend.boxes) (take i ix.dirty)
+work_at ix i = work (start ix) (take i ix.dirty)
 
 abbrev pub index_at : Index → ℕ → Index
 index_at ix i = worked ix (work_at ix i) ix.queued
@@ -32,30 +32,30 @@ index_at_first ix = refl
 
 -- one slot more of that index is one step more of the work
 module _ (ix : Index) (w : Work) (x : ℕ) where
-  pub slot_worked : slot_committed (worked ix w ix.queued) x ≡ worked ix (work_step ix.aabb ix.prev w x) ix.queued
+  pub slot_worked : slot_committed (worked ix w ix.queued) x ≡ worked ix (work_step w x) ix.queued
   unfolding work_step
   slot_worked = refl
 
-module _ (ix : Index) (u : ℕ) (S : Shaped ix) (C : CountOf ix.mark ix.free ix.frees ix.dirty ix.queued u) (i : ℕ) (h : i < ix.queued) where
+module _ (ix : Index) (u : ℕ) (S : Shaped ix) (C : CountOf ix.entries ix.free ix.frees ix.dirty ix.queued u) (i : ℕ) (h : i < ix.queued) where
   abbrev x : ℕ
   x = get_or ix.dirty i 0
 
-  begun : Turn ix.aabb ix.prev ix.dirty ix.queued u (start ix.mark ix.kept ix.free ix.frees ix.backend.present ix.backend.boxes) C S.mark_whole S.free_whole S.dirty_whole i (work_at ix i)
-  begun = turn ix.aabb ix.prev ix.dirty ix.queued u (start ix.mark ix.kept ix.free ix.frees ix.backend.present ix.backend.boxes) C S.mark_whole S.free_whole S.dirty_whole i (omega arith)
+  begun : Turn ix.dirty ix.queued u (start ix) C S.entries_whole S.free_whole S.dirty_whole i (work_at ix i)
+  begun = turn ix.dirty ix.queued u (start ix) C S.entries_whole S.free_whole S.dirty_whole i (omega arith)
 
   -- the next slot can be committed
   pub commits_at : Commits (index_at ix i) x
   commits_at =
       let w = work_at ix i in
       let T = begun in
-      let l = slot_low w.mark w.free w.frees ix.dirty ix.queued u i T.sound S.dirty_whole h in
-      record { low = l; free_room = drop_room w.mark w.free w.frees ix.dirty ix.queued u T.sound T.mark_whole T.free_whole S.dirty_whole x l }
+      let l = slot_low w.entries w.free w.frees ix.dirty ix.queued u i T.sound S.dirty_whole h in
+      record { low = l; free_room = drop_room w.entries w.free w.frees ix.dirty ix.queued u T.sound T.entries_whole T.free_whole S.dirty_whole x l }
 
-  pub work_at_next : work_at ix (i + 1) ≡ work_step ix.aabb ix.prev (work_at ix i) x
+  pub work_at_next : work_at ix (i + 1) ≡ work_step (work_at ix i) x
   work_at_next =
       let q = C.queue_fits in
       let d = S.dirty_whole in
-      work_next ix.aabb ix.prev (start ix.mark ix.kept ix.free ix.frees ix.backend.present ix.backend.boxes) ix.dirty i (omega arith)
+      work_next (start ix) ix.dirty i (omega arith)
 
   pub index_at_next : slot_committed (index_at ix i) x ≡ index_at ix (i + 1)
   index_at_next = slot_worked ix (work_at ix i) x ∙ ap (λ (w : Work). worked ix w ix.queued) (sym work_at_next)
@@ -95,19 +95,19 @@ pub record Found (w : Work) (added₀ removed₀ old₀ new₀ added removed old
   pub counts : Counts w (record { added = a; removed = r; moved = m })
   pub lays : Lays w added₀ removed₀ old₀ new₀ added removed old new
 
-found_step : (aabb prev : List Float) (w : Work) (x i : ℕ) (ch : Change) (added₀ removed₀ old₀ new₀ added removed old new added' removed' old' new' : List Float) (a r m a' r' m' : ℕ)
+found_step : (w : Work) (x i : ℕ) (ch : Change) (added₀ removed₀ old₀ new₀ added removed old new added' removed' old' new' : List Float) (a r m a' r' m' : ℕ)
     → i < 512 → a ≤ i → r ≤ i → m ≤ i → Found w added₀ removed₀ old₀ new₀ added removed old new a r m
     → Long added₀ added → Long removed₀ removed → Long old₀ old → Long new₀ new
-    → ch ≡ change_of (act_of (get_or w.mark x 0)) (box_at aabb x) (previous_at w.kept prev x)
+    → ch ≡ work_change w x
     → added' ≡ room_with added a ch.added → a' ≡ count_with a ch.added → removed' ≡ room_with removed r ch.removed → r' ≡ count_with r ch.removed
     → old' ≡ room_with old m ch.old → new' ≡ room_with new m ch.new → m' ≡ count_with m ch.new
-    → Found (work_step aabb prev w x) added₀ removed₀ old₀ new₀ added' removed' old' new' a' r' m'
+    → Found (work_step w x) added₀ removed₀ old₀ new₀ added' removed' old' new' a' r' m'
 unfolding work_step
-found_step aabb prev w x i ch added₀ removed₀ old₀ new₀ added removed old new added' removed' old' new' a r m a' r' m' h ha hr hm F la lr lo ln e ea ca er cr eo en cm =
-    let c = change_of (act_of (get_or w.mark x 0)) (box_at aabb x) (previous_at w.kept prev x) in
+found_step w x i ch added₀ removed₀ old₀ new₀ added removed old new added' removed' old' new' a r m a' r' m' h ha hr hm F la lr lo ln e ea ca er cr eo en cm =
+    let c = work_change w x in
     let S = F.counts in
     let R = F.lays in
-    let both : count_with m c.old ≡ count_with m c.new = pair (act_of (get_or w.mark x 0)) (box_at aabb x) (previous_at w.kept prev x) m in
+    let both : count_with m c.old ≡ count_with m c.new = pair (work_act w x) (entry_in w.entries x).aabb (previous_box (entry_in w.entries x)) m in
     let old_is : m' ≡ length (boxes_with w.old c.old) = cm ∙ ap (λ (k : Change). count_with m k.new) e ∙ sym both ∙ ap (λ (n : ℕ). count_with n c.old) S.old_is ∙ count_push w.old c.old in
     record {
       counts = record {
@@ -139,7 +139,7 @@ pub record Inv (ix₀ : Index) (added₀ removed₀ old₀ new₀ : List Float) 
   pub old_long : Long old₀ old
   pub new_long : Long new₀ new
 
-module _ (ix₀ : Index) (added₀ removed₀ old₀ new₀ : List Float) (u : ℕ) (S : Shaped ix₀) (C : CountOf ix₀.mark ix₀.free ix₀.frees ix₀.dirty ix₀.queued u)
+module _ (ix₀ : Index) (added₀ removed₀ old₀ new₀ : List Float) (u : ℕ) (S : Shaped ix₀) (C : CountOf ix₀.entries ix₀.free ix₀.frees ix₀.dirty ix₀.queued u)
     (ix : Index) (added removed old new : List Float) (d : Damage) (i : ℕ) (I : Inv ix₀ added₀ removed₀ old₀ new₀ ix added removed old new d i) (h : i < ix₀.queued) where
   pub slot_is : get_or ix.dirty i 0 ≡ get_or ix₀.dirty i 0
   slot_is = ap (λ (j : Index). get_or j.dirty i 0) I.index_is
@@ -162,7 +162,7 @@ module _ (ix₀ : Index) (added₀ removed₀ old₀ new₀ : List Float) (u : �
         q_fits = q;
         index_is = ei ∙ ap (λ (j : Index). slot_committed j (get_or j.dirty i 0)) I.index_is ∙ index_at_next ix₀ u S C i h;
         found = rw (work_at_next ix₀ u S C i h)
-            (found_step ix₀.aabb ix₀.prev (work_at ix₀ i) x i ch added₀ removed₀ old₀ new₀ added removed old new added' removed' old' new' d.added d.removed d.moved d'.added d'.removed d'.moved
+            (found_step (work_at ix₀ i) x i ch added₀ removed₀ old₀ new₀ added removed old new added' removed' old' new' d.added d.removed d.moved d'.added d'.removed d'.moved
             (omega arith) I.added_few I.removed_few I.moved_few I.found I.added_long I.removed_long I.old_long I.new_long e ea ca er cr eo en cm);
         added_few = rw ca (count_small d.added i ch.added I.added_few);
         removed_few = rw cr (count_small d.removed i ch.removed I.removed_few);

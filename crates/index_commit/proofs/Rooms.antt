@@ -8,8 +8,8 @@ use lib.ListN.{length, drop, length-append, length-drop}
 use lib.Seq.{sets-eq, take_at, drop_at, drop-drop}
 use lib.Ieee.{Float}
 use Rattle.index_types.specs.declared.Aabb2D.{Aabb2D}
-use Rattle.index_types.specs.flat_tables.Tables.{of_box, put_box}
-use Rattle.index_types.proofs.flat_tables.Laws.{box_length}
+use Rattle.index_types.specs.rooms.Tables.{of_box, put_box}
+use Rattle.index_types.proofs.rooms.Laws.{box_length}
 use Rattle.std.specs.Prelude.{Option, Some, None}
 use Rattle.index_commit.specs.Commit.{flat, boxes_in_front, boxes_with, room_with, count_with}
 

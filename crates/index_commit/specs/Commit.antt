@@ -1,12 +1,15 @@
 -- The index's commit (index.rs, commit and commit_slot): what each queued slot does to the index and adds to the damage.
-use Rattle.std.specs.Prelude.{ℕ, ◌+◌, ◌*◌, ◌<◌, ◌≡◌, cond, List, [], ◌∷◌, ◌++◌, ltb, eqb, length, take, drop, get_or, set, Float}
+use Rattle.std.specs.Prelude.{ℕ, ◌+◌, ◌*◌, ◌<◌, ◌≡◌, cond, List, [], ◌∷◌, ◌++◌, ltb, eqb, length, take, drop, set, Float}
 use Rattle.index_types.specs.declared.Aabb2D.{Aabb2D}
 use Rattle.index_types.specs.Boxes.{aabb_eq}
-use Rattle.index_types.specs.flat_tables.Tables.{box_at, put_box, of_box}
+use Rattle.index_types.specs.Slots.{entry_in, stored_in, entry}
+use Rattle.index_types.specs.rooms.Tables.{put_box, of_box}
 use Rattle.std.specs.Prelude.{Option, Some, None}
-use Rattle.index_entries.specs.Entries.{previous_at}
+use Rattle.index_entries.specs.Entries.{previous_box}
 use Rattle.index_commit.specs.declared.Change.{Change}
 use Rattle.index_types.specs.declared.Damage.{Damage}
+use Rattle.index_types.specs.declared.Slot.{Slot}
+use Rattle.index_types.specs.declared.Stored.{Stored}
 use Rattle.index_types.specs.declared.Index.{Index}
 
 -- what a queued slot does, by its mark's number: an empty or unmarked one nothing
@@ -30,37 +33,31 @@ unfoldable pub moved_to : Option Aabb2D → Aabb2D → Option Aabb2D
 moved_to None b = None
 moved_to (Some a) b = Some b
 
--- ---- one slot, table by table
+-- ---- one slot: its entry, what is stored of it, and the free list
 
-abbrev pub mark_step : Act → List ℕ → ℕ → List ℕ
-mark_step rests mark x = mark
-mark_step adds mark x = set mark x 1
-mark_step moves mark x = set mark x 1
-mark_step drops mark x = set mark x 0
+abbrev pub committed_entry : Act → Slot → Slot
+committed_entry rests e = e
+committed_entry adds e = record e { mark = 1 }
+committed_entry moves e = record e { mark = 1; kept = 0 }
+committed_entry drops e = record e { mark = 0 }
 
-abbrev pub kept_step : Act → List ℕ → ℕ → List ℕ
-kept_step rests kept x = kept
-kept_step adds kept x = kept
-kept_step moves kept x = set kept x 0
-kept_step drops kept x = kept
+abbrev pub stored_entry : Act → Aabb2D → Stored → Stored
+stored_entry rests b s = s
+stored_entry adds b s = record { present = 1; aabb = b }
+stored_entry moves b s = record { present = 1; aabb = b }
+stored_entry drops b s = record s { present = 0 }
+
+abbrev pub entries_step : Act → List Slot → ℕ → List Slot
+entries_step a entries x = set entries x (committed_entry a (entry_in entries x))
+
+abbrev pub stored_step : Act → List Stored → ℕ → Aabb2D → List Stored
+stored_step a stored x b = set stored x (stored_entry a b (stored_in stored x))
 
 abbrev pub free_step : Act → List ℕ → ℕ → ℕ → List ℕ
 free_step rests free frees x = free
 free_step adds free frees x = free
 free_step moves free frees x = free
 free_step drops free frees x = set free frees x
-
-abbrev pub present_step : Act → List ℕ → ℕ → List ℕ
-present_step rests present x = present
-present_step adds present x = set present x 1
-present_step moves present x = set present x 1
-present_step drops present x = set present x 0
-
-abbrev pub boxes_step : Act → List Float → ℕ → Aabb2D → List Float
-boxes_step rests boxes x b = boxes
-boxes_step adds boxes x b = put_box boxes x b
-boxes_step moves boxes x b = put_box boxes x b
-boxes_step drops boxes x b = boxes
 
 abbrev pub frees_step : Act → ℕ → ℕ
 frees_step rests frees = frees
@@ -81,30 +78,22 @@ change_of drops b p = change None (Some (box_before p b)) None None
 -- ---- one slot, over the whole index
 
 abbrev pub act_at : Index → ℕ → Act
-act_at ix x = act_of (get_or ix.mark x 0)
+act_at ix x = act_of (entry ix x).mark
 
 abbrev pub committed_by : Act → Index → ℕ → Index
 committed_by a ix x =
-    record {
-      generation = ix.generation;
-      mark = mark_step a ix.mark x;
-      payload = ix.payload;
-      aabb = ix.aabb;
-      kept = kept_step a ix.kept x;
-      prev = ix.prev;
-      used = ix.used;
+    record ix {
+      entries = entries_step a ix.entries x;
       free = free_step a ix.free ix.frees x;
       frees = frees_step a ix.frees;
-      dirty = ix.dirty;
-      queued = ix.queued;
-      backend = record { present = present_step a ix.backend.present x; boxes = boxes_step a ix.backend.boxes x (box_at ix.aabb x) };
+      backend = record { entries = stored_step a ix.backend.entries x (entry ix x).aabb };
     }
 
 abbrev pub slot_committed : Index → ℕ → Index
 slot_committed ix x = committed_by (act_at ix x) ix x
 
 abbrev pub slot_change : Index → ℕ → Change
-slot_change ix x = change_of (act_at ix x) (box_at ix.aabb x) (previous_at ix.kept ix.prev x)
+slot_change ix x = change_of (act_at ix x) (entry ix x).aabb (previous_box (entry ix x))
 
 -- what that needs: a slot, and a place in the free list where its entry is removed
 pub record Commits (ix : Index) (x : ℕ) : Type 0 where
@@ -136,14 +125,12 @@ count_with n (Some b) = n + 1
 
 -- ---- the queued slots, one after the other
 
--- the tables as far as a commit changes them, and the damage so far
+-- the index as far as a commit changes it, and the damage so far
 pub record Work : Type 0 where
-  pub mark : List ℕ
-  pub kept : List ℕ
+  pub entries : List Slot
   pub free : List ℕ
   pub frees : ℕ
-  pub present : List ℕ
-  pub boxes : List Float
+  pub stored : List Stored
   pub added : List Aabb2D
   pub removed : List Aabb2D
   pub old : List Aabb2D
@@ -152,53 +139,42 @@ pub record Work : Type 0 where
 abbrev pub work_by : Act → Change → Aabb2D → Work → ℕ → Work
 work_by a c b w x =
     record {
-      mark = mark_step a w.mark x;
-      kept = kept_step a w.kept x;
+      entries = entries_step a w.entries x;
       free = free_step a w.free w.frees x;
       frees = frees_step a w.frees;
-      present = present_step a w.present x;
-      boxes = boxes_step a w.boxes x b;
+      stored = stored_step a w.stored x b;
       added = boxes_with w.added c.added;
       removed = boxes_with w.removed c.removed;
       old = boxes_with w.old c.old;
       new = boxes_with w.new c.new;
     }
 
--- one slot, by its mark and its boxes
-unfoldable pub work_step : List Float → List Float → Work → ℕ → Work
-work_step aabb prev w x =
-    work_by (act_of (get_or w.mark x 0)) (change_of (act_of (get_or w.mark x 0)) (box_at aabb x) (previous_at w.kept prev x)) (box_at aabb x) w x
+-- what a slot does, and the change that it makes
+abbrev pub work_act : Work → ℕ → Act
+work_act w x = act_of (entry_in w.entries x).mark
 
-unfoldable pub work : List Float → List Float → Work → List ℕ → Work
-work aabb prev w [] = w
-work aabb prev w (x ∷ xs) = work aabb prev (work_step aabb prev w x) xs
+abbrev pub work_change : Work → ℕ → Change
+work_change w x = change_of (work_act w x) (entry_in w.entries x).aabb (previous_box (entry_in w.entries x))
 
-abbrev pub start : List ℕ → List ℕ → List ℕ → ℕ → List ℕ → List Float → Work
-start mark kept free frees present boxes =
-    record { mark = mark; kept = kept; free = free; frees = frees; present = present; boxes = boxes; added = []; removed = []; old = []; new = [] }
+-- one slot
+unfoldable pub work_step : Work → ℕ → Work
+work_step w x = work_by (work_act w x) (work_change w x) (entry_in w.entries x).aabb w x
+
+unfoldable pub work : Work → List ℕ → Work
+work w [] = w
+work w (x ∷ xs) = work (work_step w x) xs
+
+abbrev pub start : Index → Work
+start ix =
+    record { entries = ix.entries; free = ix.free; frees = ix.frees; stored = ix.backend.entries; added = []; removed = []; old = []; new = [] }
 
 -- the queued slots of an index, one after the other
 unfoldable pub work_of : Index → Work
-work_of ix =
-    work ix.aabb ix.prev (start ix.mark ix.kept ix.free ix.frees ix.backend.present ix.backend.boxes) (take ix.queued ix.dirty)
+work_of ix = work (start ix) (take ix.queued ix.dirty)
 
 -- what the work leaves of an index, whose queue is then so long
 abbrev pub worked : Index → Work → ℕ → Index
-worked ix w queued =
-    record {
-      generation = ix.generation;
-      mark = w.mark;
-      payload = ix.payload;
-      aabb = ix.aabb;
-      kept = w.kept;
-      prev = ix.prev;
-      used = ix.used;
-      free = w.free;
-      frees = w.frees;
-      dirty = ix.dirty;
-      queued = queued;
-      backend = record { present = w.present; boxes = w.boxes };
-    }
+worked ix w queued = record ix { entries = w.entries; free = w.free; frees = w.frees; queued = queued; backend = record { entries = w.stored } }
 
 abbrev pub commit_of : Index → Work → Index
 commit_of ix w = worked ix w 0

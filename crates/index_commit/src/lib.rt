@@ -5,7 +5,8 @@ ghost use Rattle.std.specs.Prelude.{◌≡◌, ◌+◌, ◌*◌, ◌<◌, ◌≤
 ghost use Rattle.index_sound.specs.Sound.{SoundOf, Shaped};
 ghost use Rattle.index_commit.specs.Commit as spec;
 
-use index_types::{Aabb2D, Damage, Index, flat_tables};
+use index_entries::{Mark, mark_of, previous_box};
+use index_types::{Aabb2D, Damage, Index, Slot, Stored, rooms};
 
 // What one slot adds to the damage. A move has its old box and its new one.
 #[derive(Clone, Copy, Default)]
@@ -45,47 +46,57 @@ fn moved_to(p: Option<Aabb2D>, b: Aabb2D) -> Option<Aabb2D>
 }
 
 // Inner: commits one slot. An empty or unmarked one does nothing.
-#[tactic(auto, using(crate::proofs::Acts::act_rests, crate::proofs::Acts::act_adds, crate::proofs::Acts::act_moves, crate::proofs::Acts::act_drops))]
+#[tactic(auto, using(crate::proofs::Acts::acts))]
 pub fn commit_slot(index: &mut Index, slot: u32) -> Change
     requires { spec.Commits index.old slot }
     ensures index { index.new ≡ spec.slot_committed index.old slot }
     ensures change { result ≡ spec.slot_change index.old slot }
 {
     let x = slot as usize;
-    let mark = index.mark[x];
-    if mark < 2 {
+    let entry = index.entries[x];
+    if entry.mark == 0 {
         return Change::default();
     }
-    let b = flat_tables::box_at(&index.aabb, x);
-    if mark == 2 {
-        index.mark[x] = 1;
-        index.backend.present[x] = 1;
-        flat_tables::put_box(&mut index.backend.boxes, x, b);
-        return Change {
-            added: Some(b),
-            ..Change::default()
-        };
-    }
-    let p = index_entries::previous_box(index, x);
-    if mark == 3 {
-        index.mark[x] = 1;
-        index.kept[x] = 0;
-        index.backend.present[x] = 1;
-        flat_tables::put_box(&mut index.backend.boxes, x, b);
-        let from = moved_from(p, b);
-        return Change {
-            old: from,
-            new: moved_to(from, b),
-            ..Change::default()
-        };
-    }
-    index.mark[x] = 0;
-    index.backend.present[x] = 0;
-    index.free[index.frees] = slot;
-    index.frees += 1;
-    Change {
-        removed: Some(box_before(p, b)),
-        ..Change::default()
+    match mark_of(entry.mark) {
+        Mark::Unmarked => Change::default(),
+        Mark::Added => {
+            index.entries[x].mark = 1;
+            index.backend.entries[x] = Stored {
+                present: 1,
+                aabb: entry.aabb,
+            };
+            Change {
+                added: Some(entry.aabb),
+                ..Change::default()
+            }
+        }
+        Mark::Updated => {
+            index.entries[x] = Slot {
+                mark: 1,
+                kept: 0,
+                ..entry
+            };
+            index.backend.entries[x] = Stored {
+                present: 1,
+                aabb: entry.aabb,
+            };
+            let from = moved_from(previous_box(entry), entry.aabb);
+            Change {
+                old: from,
+                new: moved_to(from, entry.aabb),
+                ..Change::default()
+            }
+        }
+        Mark::Removed => {
+            index.entries[x].mark = 0;
+            index.backend.entries[x].present = 0;
+            index.free[index.frees] = slot;
+            index.frees += 1;
+            Change {
+                removed: Some(box_before(previous_box(entry), entry.aabb)),
+                ..Change::default()
+            }
+        }
     }
 }
 
@@ -96,7 +107,7 @@ fn push(room: &mut [f64], n: usize, p: Option<Aabb2D>) -> usize
 {
     match p {
         Some(b) => {
-            flat_tables::put_box_in(room, n, b);
+            rooms::put_box_in(room, n, b);
             n + 1
         }
         None => n,
@@ -113,7 +124,7 @@ pub fn commit_slots(
 ) -> Damage
     requires shape { Shaped index.old }
     requires sound { let ix = index.old in
-        (u : ℕ) × SoundOf ix.mark ix.free ix.frees ix.dirty ix.queued u }
+        (u : ℕ) × SoundOf ix.entries ix.free ix.frees ix.dirty ix.queued u }
     requires rooms { (2048 ≤ length added.old) × (2048 ≤ length removed.old)
         × (2048 ≤ length old.old) × (2048 ≤ length new.old) }
     ensures index { index.new ≡ spec.commit_of index.old (spec.work_of index.old) }

@@ -16,7 +16,7 @@ use Rattle.counting.specs.Joined.{joined}
 use Rattle.counting.proofs.Conditions.{told_refused, told_accepted}
 use Rattle.index_types.specs.declared.Aabb2D.{Aabb2D}
 use Rattle.index_types.specs.Boxes as box
-use Rattle.index_types.specs.flat_tables.Tables.{box_at}
+use Rattle.index_types.specs.rooms.Tables.{box_at}
 use Rattle.std.specs.Prelude as code
 use Rattle.std.specs.Prelude.{Ok}
 use Rattle.index_damage.specs.Damage.{with_box, join_all, boxes_in, moves_in, any_short_of, boxes_of, union_of, joined_told}

@@ -9,7 +9,7 @@ use Rattle.counting.specs.Conditions.{lowest, Told, refused, gives, told_if}
 use Rattle.counting.specs.Joined.{joined}
 use Rattle.index_types.specs.declared.Aabb2D.{Aabb2D}
 use Rattle.index_types.specs.Boxes.{aabb, least, greatest, union}
-use Rattle.index_types.specs.flat_tables.Tables.{of_box, box_at}
+use Rattle.index_types.specs.rooms.Tables.{of_box, box_at}
 use Rattle.index_damage.specs.Damage.{boxes_in, moves_in, union_of}
 
 -- a box of no numbers, and boxes of one number

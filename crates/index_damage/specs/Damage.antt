@@ -5,7 +5,7 @@ use Rattle.counting.specs.Conditions.{accept, ◌else◌then◌, lowest, Told, r
 use Rattle.counting.specs.Joined.{joined}
 use Rattle.index_types.specs.declared.Aabb2D.{Aabb2D}
 use Rattle.index_types.specs.Boxes as box
-use Rattle.index_types.specs.flat_tables.Tables.{box_at}
+use Rattle.index_types.specs.rooms.Tables.{box_at}
 use Rattle.index_types.specs.declared.Refusal.{Refusal}
 use Rattle.index_types.specs.Refusals.{number_of}
 use Rattle.std.specs.Prelude.{Result, Ok, Err}

@@ -4,7 +4,7 @@
 ghost use Rattle.std.specs.Prelude.{◌≡◌, ◌*◌, ◌≤◌, length};
 ghost use Rattle.index_damage.specs.Damage as spec;
 
-use index_types::flat_tables::box_in;
+use index_types::rooms::box_in;
 use index_types::{Aabb2D, Damage, Refusal};
 
 // Whether a commit has found no damage.

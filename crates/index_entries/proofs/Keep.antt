@@ -3,6 +3,8 @@ use Rattle.std.proofs.Common.{◌≡◌, ℕ, ◌+◌, ◌-◌, ◌<◌, ◌≤�
 use native.Mathlib.Decide.{dec_lt, ℕ_discrete}
 use Rattle.counting.specs.Times.{tally, times}
 use Rattle.counting.proofs.Counting.{tally_small, hit, miss, times_next, times_put, times_at, shorter}
+use Rattle.index_types.specs.declared.Slot.{Slot}
+use Rattle.index_types.specs.Slots.{no_entry, entry_in}
 use Rattle.index_sound.specs.Sound.{empty, SlotOf, CountOf}
 use Rattle.index_entries.specs.declared.reads.Mark.{Mark}
 use Rattle.index_entries.specs.declared.reads.Mark.TheVariants as is
@@ -70,21 +72,21 @@ module _ (dirty : List ℕ) (n : ℕ) (Q : QueueOf dirty n) (lq : length dirty �
         whole = length-set dirty n x ∙ lq;
       }))
 
--- ---- a slot's mark, with a free list and a queue that are right for it
+-- ---- another entry at a slot, with a free list and a queue that are right for its mark
 
-module _ (mark free : List ℕ) (frees : ℕ) (dirty : List ℕ) (n used : ℕ) (C : CountOf mark free frees dirty n used) (lm : length mark ≡ 512) where
+module _ (entries : List Slot) (free : List ℕ) (frees : ℕ) (dirty : List ℕ) (n used : ℕ) (C : CountOf entries free frees dirty n used) (lm : length entries ≡ 512) where
   pub queue_of : QueueOf dirty n
   queue_of = record { fits = C.queue_fits; low = C.low; once = C.once }
 
-  pub changed : (free' : List ℕ) (frees' : ℕ) (dirty' : List ℕ) (n' used' a v : ℕ)
+  pub changed : (free' : List ℕ) (frees' : ℕ) (dirty' : List ℕ) (n' used' a : ℕ) (e : Slot)
       → a < used' → used ≤ used' → used' ≤ 512 → frees' ≤ 512
-      → times a (take frees' free') ≡ tally (eqb v 0)
-      → ((x : ℕ) → (x ≡ a → ⊥) → times x (take frees' free') ≡ tally (empty mark used' x))
+      → times a (take frees' free') ≡ tally (eqb e.mark 0)
+      → ((x : ℕ) → (x ≡ a → ⊥) → times x (take frees' free') ≡ tally (empty entries used' x))
       → QueueOf dirty' n'
-      → (2 ≤ v → times a (take n' dirty') ≡ 1)
+      → (2 ≤ e.mark → times a (take n' dirty') ≡ 1)
       → ((x : ℕ) → (x ≡ a → ⊥) → times x (take n' dirty') ≡ times x (take n dirty))
-      → CountOf (set mark a v) free' frees' dirty' n' used'
-  changed free' frees' dirty' n' used' a v l up lu lf here there Q waits still = record {
+      → CountOf (set entries a e) free' frees' dirty' n' used'
+  changed free' frees' dirty' n' used' a e l up lu lf here there Q waits still = record {
     used_fits = lu;
     free_fits = lf;
     queue_fits = Q.fits;
@@ -93,41 +95,41 @@ module _ (mark free : List ℕ) (frees : ℕ) (dirty : List ℕ) (n used : ℕ) 
     once = Q.once;
   }
     where
-      at : (x : ℕ) → SlotOf x used' (get_or (set mark a v) x 0) (times x (take frees' free')) (times x (take n' dirty'))
+      at : (x : ℕ) → SlotOf x used' (entry_in (set entries a e) x).mark (times x (take frees' free')) (times x (take n' dirty'))
       at x =
           elim (ℕ_discrete x a) [
-            | yes e ↦ rw (e, get_or-set_same mark a v 0 (omega arith)) (record { past = λ g. absurd (omega arith); counted = rw (lt-ltb a used' l) here; waits = waits })
-            | no m ↦ rw (get_or-set_other mark a x v 0 m, still x m) (record { past = λ g. (C.slot x).past (omega arith); counted = there x m; waits = (C.slot x).waits })
+            | yes q ↦ rw (q, get_or-set_same entries a e no_entry (omega arith)) (record { past = λ g. absurd (omega arith); counted = rw (lt-ltb a used' l) here; waits = waits })
+            | no m ↦ rw (get_or-set_other entries a x e no_entry m, still x m) (record { past = λ g. (C.slot x).past (omega arith); counted = there x m; waits = (C.slot x).waits })
           ]
 
   -- a slot that holds an entry is not in the free list, which so has room
-  pub free_room : (a : ℕ) → (get_or mark a 0 ≡ 0 → ⊥) → a < 512 → length free ≡ 512 → frees < 512
+  pub free_room : (a : ℕ) → ((entry_in entries a).mark ≡ 0 → ⊥) → a < 512 → length free ≡ 512 → frees < 512
   free_room a e h lf =
       let f = C.free_fits in
       let u = C.used_fits in
-      let none : times a (take frees free) ≡ 0 = (C.slot a).counted ∙ rw (ne_eqb (get_or mark a 0) 0 e) (nothing (ltb a used)) in
+      let none : times a (take frees free) ≡ 0 = (C.slot a).counted ∙ rw (ne_eqb (entry_in entries a).mark 0 e) (nothing (ltb a used)) in
       rw (length-take-le frees free (omega arith)) at
-      (shorter 512 a (take frees free) (λ x. rw (C.slot x).counted (tally_small (empty mark used x))) (λ x g. (C.slot x).counted ∙ rw (le-ltb x used (omega arith))) h none)
+      (shorter 512 a (take frees free) (λ x. rw (C.slot x).counted (tally_small (empty entries used x))) (λ x g. (C.slot x).counted ∙ rw (le-ltb x used (omega arith))) h none)
     where
       nothing : (b : Bool) → tally (b && false) ≡ 0
       nothing true = refl
       nothing false = refl
 
   -- what holds an entry is used
-  pub entry_used : (a : ℕ) → (get_or mark a 0 ≡ 0 → ⊥) → a < used
+  pub entry_used : (a : ℕ) → ((entry_in entries a).mark ≡ 0 → ⊥) → a < used
   entry_used a e = elim (dec_lt a used) [ yes l ↦ l | no g ↦ absurd (e ((C.slot a).past (omega arith))) ]
 
 -- ---- insert
 
-module _ (mark free : List ℕ) (frees : ℕ) (dirty : List ℕ) (n used : ℕ) (C : CountOf mark free frees dirty n used) (lm : length mark ≡ 512) (lf : length free ≡ 512) (lq : length dirty ≡ 512) where
+module _ (entries : List Slot) (free : List ℕ) (frees : ℕ) (dirty : List ℕ) (n used : ℕ) (C : CountOf entries free frees dirty n used) (lm : length entries ≡ 512) (lf : length free ≡ 512) (lq : length dirty ≡ 512) where
   -- what stands last in the free list is a used empty slot
-  last_empty : (frees ≡ 0 → ⊥) → (get_or free (frees - 1) 0 < used) × (get_or mark (get_or free (frees - 1) 0) 0 ≡ 0)
+  last_empty : (frees ≡ 0 → ⊥) → (get_or free (frees - 1) 0 < used) × ((entry_in entries (get_or free (frees - 1) 0)).mark ≡ 0)
   last_empty e =
       let a = get_or free (frees - 1) 0 in
       let f = C.free_fits in
-      let t : 1 ≤ tally (empty mark used a) = omega (arith, (C.slot a).counted, times_at free (frees - 1) frees (omega arith) (omega arith)) in
+      let t : 1 ≤ tally (empty entries used a) = omega (arith, (C.slot a).counted, times_at free (frees - 1) frees (omega arith) (omega arith)) in
       elim (dec_lt a used) [
-        | yes l ↦ elim (ℕ_discrete (get_or mark a 0) 0) [ yes z ↦ (l, z) | no m ↦ absurd (omega (arith, rw (lt-ltb a used l, ne_eqb (get_or mark a 0) 0 m) at t)) ]
+        | yes l ↦ elim (ℕ_discrete (entry_in entries a).mark 0) [ yes z ↦ (l, z) | no m ↦ absurd (omega (arith, rw (lt-ltb a used l, ne_eqb (entry_in entries a).mark 0 m) at t)) ]
         | no g ↦ absurd (omega (arith, rw (le-ltb a used (omega arith)) at t))
       ]
 
@@ -138,22 +140,21 @@ module _ (mark free : List ℕ) (frees : ℕ) (dirty : List ℕ) (n used : ℕ) 
     pub slot_fits : s < 512
     slot_fits =
         let u = C.used_fits in
-        elim (ℕ_discrete frees 0) [ yes e ↦ rw (slot_unused free free frees used e) (room e) | no m ↦ rw (slot_last free free frees used m) (omega (arith, (last_empty m).0)) ]
+        elim (ℕ_discrete frees 0) [ yes e ↦ rw (slot_unused entries free frees used e) (room e) | no m ↦ rw (slot_last entries free frees used m) (omega (arith, (last_empty m).0)) ]
 
     -- it is an empty slot
-    pub slot_empty : get_or mark s 0 ≡ 0
+    pub slot_empty : (entry_in entries s).mark ≡ 0
     slot_empty =
         elim (ℕ_discrete frees 0) [
-          | yes e ↦ rw (slot_unused free free frees used e) ((C.slot used).past (omega arith))
-          | no m ↦ rw (slot_last free free frees used m) (last_empty m).1
+          | yes e ↦ rw (slot_unused entries free frees used e) ((C.slot used).past (omega arith))
+          | no m ↦ rw (slot_last entries free frees used m) (last_empty m).1
         ]
 
-    pub keep_insert : CountOf (set mark s 2) free (frees - 1) (queue_with dirty n s) (length_with dirty n s) (used_for frees used)
-    keep_insert =
-        elim (ℕ_discrete frees 0) [ yes e ↦ unused e | no m ↦ again m ]
+    pub keep_insert : (e : Slot) → e.mark ≡ 2 → CountOf (set entries s e) free (frees - 1) (queue_with dirty n s) (length_with dirty n s) (used_for frees used)
+    keep_insert e new = elim (ℕ_discrete frees 0) [ yes z ↦ unused z | no m ↦ again m ]
       where
-        q : After dirty n (queue_of mark free frees dirty n used C lm) lq s slot_fits (queue_with dirty n s) (length_with dirty n s)
-        q = queued dirty n (queue_of mark free frees dirty n used C lm) lq s slot_fits
+        q : After dirty n (queue_of entries free frees dirty n used C lm) lq s slot_fits (queue_with dirty n s) (length_with dirty n s)
+        q = queued dirty n (queue_of entries free frees dirty n used C lm) lq s slot_fits
 
         wider : (x : ℕ) → (x ≡ used → ⊥) → ltb x used ≡ ltb x (used + 1)
         wider x m =
@@ -162,29 +163,29 @@ module _ (mark free : List ℕ) (frees : ℕ) (dirty : List ℕ) (n used : ℕ) 
               | no g ↦ le-ltb x used (omega arith) ∙ sym (le-ltb x (used + 1) (omega arith))
             ]
 
-        unused : frees ≡ 0 → CountOf (set mark s 2) free (frees - 1) (queue_with dirty n s) (length_with dirty n s) (used_for frees used)
-        unused e =
-            let su = slot_unused free free frees used e in
+        unused : frees ≡ 0 → CountOf (set entries s e) free (frees - 1) (queue_with dirty n s) (length_with dirty n s) (used_for frees used)
+        unused z =
+            let su = slot_unused entries free frees used z in
             let fe : frees - 1 ≡ frees = omega arith in
-            rw (used_unused free free frees used e, fe)
-            (changed mark free frees dirty n used C lm free frees (queue_with dirty n s) (length_with dirty n s) (used + 1) s 2 (omega (arith, su)) (omega arith) (omega (arith, room e)) C.free_fits
-            (rw su ((C.slot used).counted ∙ rw (le-ltb used used (omega arith))))
+            rw (used_unused entries free frees used z, fe)
+            (changed entries free frees dirty n used C lm free frees (queue_with dirty n s) (length_with dirty n s) (used + 1) s e (omega (arith, su)) (omega arith) (omega (arith, room z)) C.free_fits
+            (rw (su, new) ((C.slot used).counted ∙ rw (le-ltb used used (omega arith))))
             (λ x m. (C.slot x).counted ∙ rw (wider x (λ w. m (w ∙ sym su))))
             q.queue (λ _. q.here) q.there)
 
-        again : (frees ≡ 0 → ⊥) → CountOf (set mark s 2) free (frees - 1) (queue_with dirty n s) (length_with dirty n s) (used_for frees used)
+        again : (frees ≡ 0 → ⊥) → CountOf (set entries s e) free (frees - 1) (queue_with dirty n s) (length_with dirty n s) (used_for frees used)
         again m =
-            let sl = slot_last free free frees used m in
+            let sl = slot_last entries free frees used m in
             let a = get_or free (frees - 1) 0 in
             let f = C.free_fits in
             let d = last_empty m in
             let back : frees - 1 + 1 ≡ frees = omega arith in
             let next : (x : ℕ) → times x (take frees free) ≡ times x (take (frees - 1) free) + tally (eqb x a) = λ x. rw back at (times_next x free (frees - 1) (omega arith)) in
-            let dead : tally (empty mark used a) ≡ 1 = rw (lt-ltb a used d.0, d.1) in
-            rw (used_last free free frees used m)
-            (changed mark free frees dirty n used C lm free (frees - 1) (queue_with dirty n s) (length_with dirty n s) used s 2 (rw sl d.0) (omega arith) C.used_fits (omega arith)
-            (rw sl (omega (arith, next a, hit a, (C.slot a).counted, dead)))
-            (λ x w. omega (arith, next x, miss x a (λ e. w (e ∙ sym sl)), (C.slot x).counted))
+            let dead : tally (empty entries used a) ≡ 1 = rw (lt-ltb a used d.0, d.1) in
+            rw (used_last entries free frees used m)
+            (changed entries free frees dirty n used C lm free (frees - 1) (queue_with dirty n s) (length_with dirty n s) used s e (rw sl d.0) (omega arith) C.used_fits (omega arith)
+            (rw (sl, new) (omega (arith, next a, hit a, (C.slot a).counted, dead)))
+            (λ x w. omega (arith, next x, miss x a (λ q. w (q ∙ sym sl)), (C.slot x).counted))
             q.queue (λ _. q.here) q.there)
 
 -- ---- update and remove
@@ -213,41 +214,41 @@ kind k z =
     above : (k : ℕ) → (k ≡ 0 → ⊥) → (k ≡ 1 → ⊥) → (k ≡ 2 → ⊥) → (k ≡ 3 → ⊥) → 4 ≤ k
     above k p q r t = up k 3 (up k 2 (up k 1 (up k 0 (zero-le) p) q) r) t
 
-module _ (mark free : List ℕ) (frees : ℕ) (dirty : List ℕ) (n used : ℕ) (C : CountOf mark free frees dirty n used) (lm : length mark ≡ 512) (lf : length free ≡ 512) (lq : length dirty ≡ 512) (x : ℕ) (h : x < 512) (held : get_or mark x 0 ≡ 0 → ⊥) where
+module _ (entries : List Slot) (free : List ℕ) (frees : ℕ) (dirty : List ℕ) (n used : ℕ) (C : CountOf entries free frees dirty n used) (lm : length entries ≡ 512) (lf : length free ≡ 512) (lq : length dirty ≡ 512) (x : ℕ) (h : x < 512) (held : (entry_in entries x).mark ≡ 0 → ⊥) where
   Q : QueueOf dirty n
-  Q = queue_of mark free frees dirty n used C lm
+  Q = queue_of entries free frees dirty n used C lm
 
   q : After dirty n Q lq x h (queue_with dirty n x) (length_with dirty n x)
   q = queued dirty n Q lq x h
 
   -- the slot is in no free list
   unlisted : times x (take frees free) ≡ 0
-  unlisted = (C.slot x).counted ∙ rw (ne_eqb (get_or mark x 0) 0 held) (nothing (ltb x used))
+  unlisted = (C.slot x).counted ∙ rw (ne_eqb (entry_in entries x).mark 0 held) (nothing (ltb x used))
     where
       nothing : (b : Bool) → tally (b && false) ≡ 0
       nothing true = refl
       nothing false = refl
 
   -- another mark on the entry, where a queue has it
-  marked : (v : ℕ) (d : List ℕ) (m : ℕ) → 2 ≤ v → QueueOf d m → times x (take m d) ≡ 1 → ((y : ℕ) → (y ≡ x → ⊥) → times y (take m d) ≡ times y (take n dirty)) → CountOf (set mark x v) free frees d m used
-  marked v d m big D here there =
-      changed mark free frees dirty n used C lm free frees d m used x v (entry_used mark free frees dirty n used C lm x held) (omega arith) C.used_fits C.free_fits
-      (unlisted ∙ rw (ne_eqb v 0 (λ e. omega arith)))
+  marked : (e : Slot) (d : List ℕ) (m : ℕ) → 2 ≤ e.mark → QueueOf d m → times x (take m d) ≡ 1 → ((y : ℕ) → (y ≡ x → ⊥) → times y (take m d) ≡ times y (take n dirty)) → CountOf (set entries x e) free frees d m used
+  marked e d m big D here there =
+      changed entries free frees dirty n used C lm free frees d m used x e (entry_used entries free frees dirty n used C lm x held) (omega arith) C.used_fits C.free_fits
+      (unlisted ∙ rw (ne_eqb e.mark 0 (λ z. omega arith)))
       (λ y w. (C.slot y).counted) D (λ _. here) there
 
   -- the mark taken off, with the queue as it is
-  pub settled : CountOf (set mark x 1) free frees dirty n used
-  settled =
-      changed mark free frees dirty n used C lm free frees dirty n used x 1 (entry_used mark free frees dirty n used C lm x held) (omega arith) C.used_fits C.free_fits
-      unlisted
+  pub settled : (e : Slot) → e.mark ≡ 1 → CountOf (set entries x e) free frees dirty n used
+  settled e one =
+      changed entries free frees dirty n used C lm free frees dirty n used x e (entry_used entries free frees dirty n used C lm x held) (omega arith) C.used_fits C.free_fits
+      (rw one unlisted)
       (λ y w. (C.slot y).counted) Q (λ l. absurd (omega arith)) (λ y w. refl)
 
   -- a marked entry stands in the queue already
-  stays : (v : ℕ) → 2 ≤ v → 2 ≤ get_or mark x 0 → CountOf (set mark x v) free frees dirty n used
-  stays v big m = marked v dirty n big Q ((C.slot x).waits m) (λ y w. refl)
+  stays : (e : Slot) → 2 ≤ e.mark → 2 ≤ (entry_in entries x).mark → CountOf (set entries x e) free frees dirty n used
+  stays e big m = marked e dirty n big Q ((C.slot x).waits m) (λ y w. refl)
 
-  joins : (v : ℕ) → 2 ≤ v → CountOf (set mark x v) free frees (queue_with dirty n x) (length_with dirty n x) used
-  joins v big = marked v (queue_with dirty n x) (length_with dirty n x) big q.queue q.here q.there
+  joins : (e : Slot) → 2 ≤ e.mark → CountOf (set entries x e) free frees (queue_with dirty n x) (length_with dirty n x) used
+  joins e big = marked e (queue_with dirty n x) (length_with dirty n x) big q.queue q.here q.there
 
   abbrev dirty_after : Mark → List ℕ
   dirty_after m = cond (unmarked m) (queue_with dirty n x) dirty
@@ -255,29 +256,31 @@ module _ (mark free : List ℕ) (frees : ℕ) (dirty : List ℕ) (n used : ℕ) 
   abbrev queued_after : Mark → ℕ
   queued_after m = cond (unmarked m) (length_with dirty n x) n
 
-  update_kind : {k : ℕ} {m : Mark} → Kind k m → (2 ≤ k → 2 ≤ get_or mark x 0) → CountOf (set mark x (updated_mark m)) free frees (dirty_after m) (queued_after m) used
-  update_kind plain f = joins 3 (omega arith)
-  update_kind new f = stays 2 (omega arith) (f (omega arith))
-  update_kind moved f = stays 3 (omega arith) (f (omega arith))
-  update_kind (gone g) f = stays 3 (omega arith) (f (omega arith))
+  update_kind : {k : ℕ} {m : Mark} → Kind k m → (2 ≤ k → 2 ≤ (entry_in entries x).mark) → (e : Slot) → e.mark ≡ updated_mark m → CountOf (set entries x e) free frees (dirty_after m) (queued_after m) used
+  update_kind plain f e w = joins e (omega arith)
+  update_kind new f e w = stays e (omega arith) (f (omega arith))
+  update_kind moved f e w = stays e (omega arith) (f (omega arith))
+  update_kind (gone g) f e w = stays e (omega arith) (f (omega arith))
 
-  pub keep_update : CountOf (set mark x (updated_mark (mark_of (get_or mark x 0)))) free frees (dirty_after (mark_of (get_or mark x 0))) (queued_after (mark_of (get_or mark x 0))) used
-  keep_update = update_kind (kind (get_or mark x 0) held) (λ l. l)
+  pub keep_update : let m = mark_of (entry_in entries x).mark in (e : Slot) → e.mark ≡ updated_mark m → CountOf (set entries x e) free frees (dirty_after m) (queued_after m) used
+  keep_update = update_kind (kind (entry_in entries x).mark held) (λ l. l)
 
   -- an added entry goes, and its slot is freed
-  pub freed : CountOf (set mark x 0) (set free frees x) (frees + 1) dirty n used
-  freed =
-      let r = free_room mark free frees dirty n used C lm x held h lf in
+  pub freed : (e : Slot) → e.mark ≡ 0 → CountOf (set entries x e) (set free frees x) (frees + 1) dirty n used
+  freed e none =
+      let r = free_room entries free frees dirty n used C lm x held h lf in
       let put : (y : ℕ) → times y (take (frees + 1) (set free frees x)) ≡ times y (take frees free) + tally (eqb y x) = λ y. times_put y free frees x (omega arith) in
-      changed mark free frees dirty n used C lm (set free frees x) (frees + 1) dirty n used x 0 (entry_used mark free frees dirty n used C lm x held) (omega arith) C.used_fits (omega arith)
-      (omega (arith, put x, hit x, unlisted))
+      changed entries free frees dirty n used C lm (set free frees x) (frees + 1) dirty n used x e (entry_used entries free frees dirty n used C lm x held) (omega arith) C.used_fits (omega arith)
+      (rw none (omega (arith, put x, hit x, unlisted)))
       (λ y w. omega (arith, put y, miss y x w, (C.slot y).counted)) Q (λ l. absurd (omega arith)) (λ y w. refl)
 
-  remove_kind : {k : ℕ} {m : Mark} → Kind k m → (2 ≤ k → 2 ≤ get_or mark x 0) → CountOf (set mark x (removed_mark m)) (cond (added m) (set free frees x) free) (cond (added m) (frees + 1) frees) (dirty_after m) (queued_after m) used
-  remove_kind plain f = joins 4 (omega arith)
-  remove_kind new f = freed
-  remove_kind moved f = stays 4 (omega arith) (f (omega arith))
-  remove_kind (gone g) f = stays 4 (omega arith) (f (omega arith))
+  remove_kind : {k : ℕ} {m : Mark} → Kind k m → (2 ≤ k → 2 ≤ (entry_in entries x).mark) → (e : Slot) → e.mark ≡ removed_mark m
+      → CountOf (set entries x e) (cond (added m) (set free frees x) free) (cond (added m) (frees + 1) frees) (dirty_after m) (queued_after m) used
+  remove_kind plain f e w = joins e (omega arith)
+  remove_kind new f e w = freed e w
+  remove_kind moved f e w = stays e (omega arith) (f (omega arith))
+  remove_kind (gone g) f e w = stays e (omega arith) (f (omega arith))
 
-  pub keep_remove : let m = mark_of (get_or mark x 0) in CountOf (set mark x (removed_mark m)) (cond (added m) (set free frees x) free) (cond (added m) (frees + 1) frees) (dirty_after m) (queued_after m) used
-  keep_remove = remove_kind (kind (get_or mark x 0) held) (λ l. l)
+  pub keep_remove : let m = mark_of (entry_in entries x).mark in (e : Slot) → e.mark ≡ removed_mark m
+      → CountOf (set entries x e) (cond (added m) (set free frees x) free) (cond (added m) (frees + 1) frees) (dirty_after m) (queued_after m) used
+  keep_remove = remove_kind (kind (entry_in entries x).mark held) (λ l. l)

@@ -1,15 +1,15 @@
--- The inner steps of the index, on its tables (document 01, module 5): the update, by the entry's mark. Slots, queue, look-up and removal are
--- passed on.
-use Rattle.std.specs.Prelude.{ℕ, ◌+◌, ◌-◌, ◌<◌, ◌≤◌, ◌≡◌, Bool, true, false, cond, set, get_or}
+-- The inner steps of the index (document 01, module 5): insert, update and removal. Slots, queue, look-up and marks are passed on.
+use Rattle.std.specs.Prelude.{ℕ, ◌+◌, ◌-◌, ◌<◌, ◌≤◌, ◌≡◌, true, false, cond, set}
 use Rattle.index_types.specs.declared.Aabb2D.{Aabb2D}
 use Rattle.index_types.specs.declared.NodeId.{NodeId}
 use Rattle.index_types.specs.declared.Key.{Key}
+use Rattle.index_types.specs.declared.Slot.{Slot}
 use Rattle.index_types.specs.declared.Index.{Index}
-use Rattle.index_types.specs.flat_tables.Tables.{box_at, put_box, put_id}
+use Rattle.index_types.specs.Slots.{entry}
 pub use Rattle.index_entries.specs.slots.Slots.{stands}
 unfoldable pub use Rattle.index_entries.specs.slots.Slots.{next_generation, queue_with, length_with, slot_for, used_for, generation_for}
-pub use Rattle.index_entries.specs.reads.Reads.{entry_at, live_key}
-unfoldable pub use Rattle.index_entries.specs.reads.Reads.{mark_of, previous_at, look_up}
+pub use Rattle.index_entries.specs.reads.Reads.{live}
+unfoldable pub use Rattle.index_entries.specs.reads.Reads.{mark_of, previous_box, look_up}
 pub use Rattle.index_entries.specs.remove.Marks.{unmarked, added, removed_mark}
 use Rattle.index_entries.specs.declared.reads.Mark.{Mark}
 use Rattle.index_entries.specs.declared.reads.Mark.TheVariants as is
@@ -27,23 +27,20 @@ abbrev pub slot_of : Index → ℕ
 slot_of ix = slot_for ix.free ix.frees ix.used
 
 abbrev pub generation_of : Index → ℕ
-generation_of ix = generation_for ix.generation ix.free ix.frees ix.used
+generation_of ix = generation_for ix.entries ix.free ix.frees ix.used
+
+-- the previous box stays, without being one
+abbrev pub inserted_entry : Slot → ℕ → Aabb2D → NodeId → Slot
+inserted_entry e g b p = record e { generation = g; mark = 2; payload = p; aabb = b; kept = 0 }
 
 abbrev pub insert_of : Index → Aabb2D → NodeId → Index
 insert_of ix b p =
-    record {
-      generation = set ix.generation (slot_of ix) (generation_of ix);
-      mark = set ix.mark (slot_of ix) 2;
-      payload = put_id ix.payload (slot_of ix) p;
-      aabb = put_box ix.aabb (slot_of ix) b;
-      kept = set ix.kept (slot_of ix) 0;
-      prev = ix.prev;
+    record ix {
+      entries = set ix.entries (slot_of ix) (inserted_entry (entry ix (slot_of ix)) (generation_of ix) b p);
       used = used_for ix.frees ix.used;
-      free = ix.free;
       frees = ix.frees - 1;
       dirty = queue_with ix.dirty ix.queued (slot_of ix);
       queued = length_with ix.dirty ix.queued (slot_of ix);
-      backend = ix.backend;
     }
 
 abbrev pub key_of : ℕ → ℕ → Key
@@ -51,101 +48,45 @@ key_of x g = record { 0 = x; 1 = g }
 
 -- the slot taken, and nothing stored there yet
 abbrev pub taken_of : Index → Index
-taken_of ix =
-    record {
-      generation = set ix.generation (slot_of ix) (generation_of ix);
-      mark = ix.mark;
-      payload = ix.payload;
-      aabb = ix.aabb;
-      kept = ix.kept;
-      prev = ix.prev;
-      used = used_for ix.frees ix.used;
-      free = ix.free;
-      frees = ix.frees - 1;
-      dirty = ix.dirty;
-      queued = ix.queued;
-      backend = ix.backend;
-    }
+taken_of ix = record ix { used = used_for ix.frees ix.used; frees = ix.frees - 1 }
 
 -- the slot in the queue
 abbrev pub queued_of : Index → ℕ → Index
-queued_of ix x =
-    record {
-      generation = ix.generation;
-      mark = ix.mark;
-      payload = ix.payload;
-      aabb = ix.aabb;
-      kept = ix.kept;
-      prev = ix.prev;
-      used = ix.used;
-      free = ix.free;
-      frees = ix.frees;
-      dirty = queue_with ix.dirty ix.queued x;
-      queued = length_with ix.dirty ix.queued x;
-      backend = ix.backend;
-    }
+queued_of ix x = record ix { dirty = queue_with ix.dirty ix.queued x; queued = length_with ix.dirty ix.queued x }
 
--- ---- update and remove
-
--- 10: the key is dead. One that is marked removed and not yet committed is not.
-abbrev pub live : Index → Key → Bool
-live ix k = live_key ix.generation ix.mark k
+-- ---- update and remove. A key that is marked removed and not yet committed is not dead
 
 abbrev pub mark_at : Index → ℕ → Mark
-mark_at ix x = mark_of (get_or ix.mark x 0)
+mark_at ix x = mark_of (entry ix x).mark
 
--- the box is replaced; an entry without a mark keeps the box it had and is queued
-abbrev pub update_of : Index → ℕ → Aabb2D → Index
-update_of ix x b =
-    record {
-      generation = ix.generation;
-      mark = set ix.mark x (updated_mark (mark_at ix x));
-      payload = ix.payload;
-      aabb = put_box ix.aabb x b;
-      kept = cond (unmarked (mark_at ix x)) (set ix.kept x 1) ix.kept;
-      prev = cond (unmarked (mark_at ix x)) (put_box ix.prev x (box_at ix.aabb x)) ix.prev;
-      used = ix.used;
-      free = ix.free;
-      frees = ix.frees;
-      dirty = cond (unmarked (mark_at ix x)) (queue_with ix.dirty ix.queued x) ix.dirty;
-      queued = cond (unmarked (mark_at ix x)) (length_with ix.dirty ix.queued x) ix.queued;
-      backend = ix.backend;
+-- the box is replaced; an entry without a mark keeps the box it had
+abbrev pub updated_entry : Slot → Aabb2D → Slot
+updated_entry e b =
+    record e {
+      mark = updated_mark (mark_of e.mark);
+      aabb = b;
+      kept = cond (unmarked (mark_of e.mark)) 1 e.kept;
+      prev = cond (unmarked (mark_of e.mark)) e.aabb e.prev;
     }
 
--- the same with the box as it was
-abbrev pub marked_updated : Index → ℕ → Index
-marked_updated ix x =
-    record {
-      generation = ix.generation;
-      mark = set ix.mark x (updated_mark (mark_at ix x));
-      payload = ix.payload;
-      aabb = ix.aabb;
-      kept = cond (unmarked (mark_at ix x)) (set ix.kept x 1) ix.kept;
-      prev = cond (unmarked (mark_at ix x)) (put_box ix.prev x (box_at ix.aabb x)) ix.prev;
-      used = ix.used;
-      free = ix.free;
-      frees = ix.frees;
+-- one without a mark is queued
+abbrev pub update_of : Index → ℕ → Aabb2D → Index
+update_of ix x b =
+    record ix {
+      entries = set ix.entries x (updated_entry (entry ix x) b);
       dirty = cond (unmarked (mark_at ix x)) (queue_with ix.dirty ix.queued x) ix.dirty;
       queued = cond (unmarked (mark_at ix x)) (length_with ix.dirty ix.queued x) ix.queued;
-      backend = ix.backend;
     }
 
 -- the entry is marked removed, and queued if it had no mark; an added one goes at once, and its slot is freed
 abbrev pub remove_of : Index → ℕ → Index
 remove_of ix x =
-    record {
-      generation = ix.generation;
-      mark = set ix.mark x (removed_mark (mark_at ix x));
-      payload = ix.payload;
-      aabb = ix.aabb;
-      kept = ix.kept;
-      prev = ix.prev;
-      used = ix.used;
+    record ix {
+      entries = set ix.entries x (record (entry ix x) { mark = removed_mark (mark_at ix x) });
       free = cond (added (mark_at ix x)) (set ix.free ix.frees x) ix.free;
       frees = cond (added (mark_at ix x)) (ix.frees + 1) ix.frees;
       dirty = cond (unmarked (mark_at ix x)) (queue_with ix.dirty ix.queued x) ix.dirty;
       queued = cond (unmarked (mark_at ix x)) (length_with ix.dirty ix.queued x) ix.queued;  -- an emptied slot keeps its place
-      backend = ix.backend;
     }
 
 -- ---- what each of them needs of the index, as a sound one has it

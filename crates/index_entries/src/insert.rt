@@ -3,7 +3,7 @@ ghost use Rattle.std.specs.Prelude.{◌≡◌};
 ghost use Rattle.index_entries.specs.Entries as spec;
 
 use crate::slots::{queue_dirty_slot, take_slot};
-use index_types::{Aabb2D, Index, Key, NodeId, flat_tables};
+use index_types::{Aabb2D, Index, Key, NodeId, Slot};
 
 // Inner: a new entry, marked added and queued, at the last freed slot, else at the next unused one.
 pub fn insert_entry(index: &mut Index, aabb: Aabb2D, payload: NodeId) -> Key
@@ -13,10 +13,14 @@ pub fn insert_entry(index: &mut Index, aabb: Aabb2D, payload: NodeId) -> Key
 {
     let key = take_slot(index);
     let x = key.0 as usize;
-    index.mark[x] = 2;
-    flat_tables::put_id(&mut index.payload, x, payload);
-    flat_tables::put_box(&mut index.aabb, x, aabb);
-    index.kept[x] = 0;
+    index.entries[x] = Slot {
+        generation: key.1,
+        mark: 2,
+        payload,
+        aabb,
+        kept: 0,
+        ..index.entries[x]
+    };
     queue_dirty_slot(index, key.0);
     key
 }

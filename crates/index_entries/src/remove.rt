@@ -12,21 +12,21 @@ pub fn remove_entry(index: &mut Index, slot: u32)
     ensures { index.new ≡ spec.remove_of index.old slot }
 {
     let x = slot as usize;
-    match mark_of(index.mark[x]) {
+    match mark_of(index.entries[x].mark) {
         Mark::Added => {
-            index.mark[x] = 0;
+            index.entries[x].mark = 0;
             index.free[index.frees] = slot;
             index.frees += 1;
         }
         Mark::Unmarked => {
-            index.mark[x] = 4;
+            index.entries[x].mark = 4;
             queue_dirty_slot(index, slot);
         }
         Mark::Updated => {
-            index.mark[x] = 4;
+            index.entries[x].mark = 4;
         }
         Mark::Removed => {
-            index.mark[x] = 4;
+            index.entries[x].mark = 4;
         }
     }
 }

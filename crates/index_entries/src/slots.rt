@@ -41,14 +41,12 @@ pub(crate) fn take_slot(index: &mut Index) -> Key
 {
     if index.frees == 0 {
         let slot = index.used;
-        index.generation[slot] = 1;
         index.used = slot + 1;
         return Key(slot as u32, 1);
     }
     let last = index.frees - 1;
     let slot = index.free[last];
-    let generation = next_generation(index.generation[slot as usize]);
-    index.generation[slot as usize] = generation;
+    let generation = next_generation(index.entries[slot as usize].generation);
     index.frees = last;
     Key(slot, generation)
 }

@@ -6,13 +6,14 @@ use Prim.Native.Nat.{ℕ, zero, suc, ◌+◌, ◌*◌, ◌≤◌, ◌<◌}
 use native.Mathlib.Nat.{mul-suc}
 use native.Mathlib.Numerals.{add-one}
 use native.Mathlib.Omega.{arith}
-use lib.ListN.{length, drop, get_or, length-append, length-drop}
+use lib.ListN.{length, drop, length-append, length-drop}
 use lib.Seq.{sets-eq, take_at, drop_at, drop-drop}
 use lib.Ieee.{Float, le}
 use Rattle.index_types.specs.declared.Aabb2D.{Aabb2D}
 use Rattle.index_types.specs.Boxes.{aabb, overlaps, contains_point}
-use Rattle.index_types.specs.flat_tables.Stride.{store}
-use Rattle.index_types.specs.flat_tables.Tables.{box_at, id_at}
+use Rattle.index_types.specs.rooms.Stride.{store}
+use Rattle.index_types.specs.declared.Index.{Index}
+use Rattle.index_types.specs.Slots.{entry, stored}
 use Rattle.index_query.specs.Query.{visits, visits_point, slots, words, entries, entries_in_front}
 
 -- ---- slots
@@ -43,27 +44,27 @@ pub point_rect : (b : Aabb2D) (x y : Float) → contains_point b x y ≡ overlap
 unfolding contains_point overlaps
 point_rect b x y = regroup (le b.min_x x) (le b.min_y y) (le x b.max_x) (le y b.max_y)
 
-pub point_slots_lem : (present : List ℕ) (boxes : List Float) (mark : List ℕ) (x y : Float) → slots 512 (visits present boxes mark (aabb x y x y)) ≡ slots 512 (visits_point present boxes mark x y)
-point_slots_lem present boxes mark x y = slots_same 512 _ _ (λ s. rw (point_rect (box_at boxes s) x y))
+pub point_slots_lem : (ix : Index) (x y : Float) → slots 512 (visits ix (aabb x y x y)) ≡ slots 512 (visits_point ix x y)
+point_slots_lem ix x y = slots_same 512 _ _ (λ s. rw (point_rect (stored ix s).aabb x y))
 
 -- ---- entries
 
-module _ (generation payload : List ℕ) where
-  pub entries_length : (xs : List ℕ) → length (entries generation payload xs) ≡ 4 * length xs
+module _ (ix : Index) where
+  pub entries_length : (xs : List ℕ) → length (entries ix xs) ≡ 4 * length xs
   unfolding entries
   entries_length [] = refl
-  entries_length (x ∷ xs) = rw (length-append (words x (get_or generation x 0) (id_at payload x)) (entries generation payload xs), entries_length xs, mul-suc 4 (length xs)) (omega arith)
+  entries_length (x ∷ xs) = rw (length-append (words x (entry ix x)) (entries ix xs), entries_length xs, mul-suc 4 (length xs)) (omega arith)
 
-  entries_append : (xs : List ℕ) (x : ℕ) → entries generation payload (xs ++ (x ∷ [])) ≡ entries generation payload xs ++ words x (get_or generation x 0) (id_at payload x)
+  entries_append : (xs : List ℕ) (x : ℕ) → entries ix (xs ++ (x ∷ [])) ≡ entries ix xs ++ words x (entry ix x)
   unfolding entries
   entries_append [] x = refl
   entries_append (y ∷ xs) x = rw (entries_append xs x)
 
   front_one : (xs : List ℕ) (room : List ℕ) (x : ℕ) → 4 * length xs + 4 ≤ length room
-      → store 4 (entries_in_front (entries generation payload xs) room) (length xs) (words x (get_or generation x 0) (id_at payload x)) ≡ entries_in_front (entries generation payload (xs ++ (x ∷ []))) room
+      → store 4 (entries_in_front (entries ix xs) room) (length xs) (words x (entry ix x)) ≡ entries_in_front (entries ix (xs ++ (x ∷ []))) room
   front_one xs room x h =
-      let es = entries generation payload xs in
-      let ws = words x (get_or generation x 0) (id_at payload x) in
+      let es = entries ix xs in
+      let ws = words x (entry ix x) in
       let n = 4 * length xs in
       let el : length es ≡ n = entries_length xs in
       let l = es ++ drop n room in
@@ -73,13 +74,13 @@ module _ (generation payload : List ℕ) where
 
   -- one more slot is looked at
   pub record Listed (p : ℕ → Bool) (room₀ room : List ℕ) (n x : ℕ) : Type 0 where
-    pub lies : room ≡ entries_in_front (entries generation payload (slots x p)) room₀
+    pub lies : room ≡ entries_in_front (entries ix (slots x p)) room₀
     pub many : n ≡ length (slots x p)
     pub few : n ≤ x
 
   module _ (p : ℕ → Bool) (room₀ room : List ℕ) (n x : ℕ) (L : Listed p room₀ room n x) where
     -- it is listed
-    pub listed_next : (room' : List ℕ) → x < 512 → 2048 ≤ length room₀ → p x ≡ true → room' ≡ store 4 room n (words x (get_or generation x 0) (id_at payload x)) → Listed p room₀ room' (n + 1) (x + 1)
+    pub listed_next : (room' : List ℕ) → x < 512 → 2048 ≤ length room₀ → p x ≡ true → room' ≡ store 4 room n (words x (entry ix x)) → Listed p room₀ room' (n + 1) (x + 1)
     listed_next room' h l e r =
         let s : slots (x + 1) p ≡ slots x p ++ (x ∷ []) = rw (slots_next x p, e) in
         let f = L.few in

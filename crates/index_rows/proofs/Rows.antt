@@ -11,18 +11,19 @@ use Rattle.index_types.specs.declared.Aabb2D.{Aabb2D}
 use Rattle.index_types.specs.declared.NodeId.{NodeId}
 use Rattle.index_types.specs.declared.Key.{Key}
 use Rattle.index_types.specs.Boxes.{aabb, aabb_eq, contains_point, overlaps}
-use Rattle.index_types.specs.flat_tables.Tables.{box_at, put_box, id_at, put_id}
+use Rattle.index_types.specs.declared.Slot.{Slot}
+use Rattle.index_types.specs.Slots.{entry_in, stored}
 use Rattle.counting.specs.Times.{times, every}
 use Rattle.counting.specs.Lists.{once_below}
 use Rattle.counting.specs.Conditions.{lowest, Told, refused, gives, told_if, left_if}
 use Rattle.index_sound.specs.Sound.{sound_of}
-use Rattle.index_entries.specs.Entries.{next_generation, queue_with, length_with, mark_of, previous_at, slot_for, used_for, generation_for}
+use Rattle.index_entries.specs.Entries.{next_generation, queue_with, length_with, mark_of, previous_box, slot_for, used_for, generation_for}
 use Rattle.index_commit.specs.Commit.{act_of, box_before, moved_from, moved_to, work_step, work}
 use Rattle.index_query.specs.Query as query
 use Rattle.index_query.specs.Query.{slots}
 use Rattle.index_types.specs.declared.Index.{Index}
 use Rattle.index_types.specs.declared.Refusal.TheVariants as no
-use Rattle.index_state.specs.Index.{sound_index, key_of, live, fresh_index, work_of, rect_slots, point_slots}
+use Rattle.index_state.specs.Index.{sound_index, key_of, live, fresh_box, fresh_index, work_of, rect_slots, point_slots}
 use Rattle.index_state.specs.Calls.{Call, insert, update, remove, clear, commit, query_rect, query_point, refusal, accepted, after, Given, nothing, key, damage, entries, given, told, number_of}
 use Rattle.index_state.specs.Run.{run}
 
@@ -63,8 +64,8 @@ next cs = told (done cs) (insert (box 9) (node 9))
 -- what the rows compute through
 computed : Unit {0}
 unfolding num box node add settle first done waiting found next query.entries fresh_index run after lowest told_if left_if refusal accepted given told
-    work_of rect_slots slots sound_of once_below every times next_generation queue_with length_with mark_of previous_at slot_for used_for
-    generation_for act_of box_before moved_from moved_to work_step work box_at put_box id_at put_id aabb_eq overlaps round units odd size span climb eq le lt
+    work_of rect_slots slots sound_of once_below every times next_generation queue_with length_with mark_of previous_box slot_for used_for
+    generation_for act_of box_before moved_from moved_to work_step work aabb_eq overlaps round units odd size span climb eq le lt
 computed = tt
 
 -- P11: a committed entry removed, then updated, commit: it lives with the new box and no damage.
@@ -101,7 +102,7 @@ pub rows : (found (add 10 ∷ add 20 ∷ remove first ∷ add 30 ∷ []) ≡ (bo
     × (next (add 0 ∷ add 1 ∷ add 2 ∷ add 3 ∷ settle ∷ remove (key_of 2 1) ∷ remove first ∷ remove (key_of 3 1) ∷ settle ∷ add 4 ∷ add 5 ∷ add 6 ∷ []) ≡ gives (key (key_of 4 1)))
     × (rect_slots (done (add 10 ∷ settle ∷ update first (box 20) ∷ [])) (box 20) ≡ [])  -- updated is not visited at its new box
     × (rect_slots (done (add 10 ∷ settle ∷ remove first ∷ [])) (box 10) ≡ 0 ∷ [])  -- removed is visited until the commit
-    × (let ix = done (add 10 ∷ settle ∷ remove first ∷ []) in query.entries ix.generation ix.payload (rect_slots ix (box 10)) ≡ 0 ∷ 1 ∷ 10 ∷ 1 ∷ [])  -- with its key and payload
+    × (let ix = done (add 10 ∷ settle ∷ remove first ∷ []) in query.entries ix (rect_slots ix (box 10)) ≡ 0 ∷ 1 ∷ 10 ∷ 1 ∷ [])  -- with its key and payload
     × (rect_slots (done (add 10 ∷ settle ∷ remove first ∷ settle ∷ [])) (box 10) ≡ [])
     × (rect_slots (done (add 10 ∷ remove first ∷ settle ∷ [])) (box 10) ≡ [])
     × (live (done (add 10 ∷ settle ∷ clear ∷ add 20 ∷ [])) first ≡ true)  -- after clear an old key lives again
@@ -120,7 +121,7 @@ none = node 0
 
 pub odd_boxes : (found (insert (flat nan) none ∷ settle ∷ update first (flat nan) ∷ []) ≡ [] ∷ [] ∷ (flat nan ∷ []) ∷ (flat nan ∷ []) ∷ [])  -- a NaN is no NaN's equal: a move
     × (found (insert (flat zero) none ∷ settle ∷ update first (flat minus_zero) ∷ []) ≡ [] ∷ [] ∷ [] ∷ [] ∷ [])  -- −0 equals +0: no move
-    × (box_at (done (insert (flat zero) none ∷ settle ∷ update first (flat minus_zero) ∷ settle ∷ [])).backend.boxes 0 ≡ flat minus_zero)  -- yet the backend gets it
+    × ((stored (done (insert (flat zero) none ∷ settle ∷ update first (flat minus_zero) ∷ settle ∷ [])) 0).aabb ≡ flat minus_zero)  -- yet the backend gets it
     × (rect_slots (done (insert (aabb (num 10) (num 10) zero zero) none ∷ settle ∷ [])) (aabb (num 0) (num 0) (num 11) (num 11)) ≡ 0 ∷ [])  -- boxes as given: it meets the rectangle
     × (point_slots (done (insert (aabb (num 10) (num 10) zero zero) none ∷ settle ∷ [])) (num 5) (num 5) ≡ [])  -- and contains no point
     × (rect_slots (done (add 10 ∷ settle ∷ [])) (aabb (num 20) (num 20) (num 5) (num 5)) ≡ [])  -- a rectangle as given
@@ -132,40 +133,35 @@ odd_boxes = (refl, refl, refl, refl, refl, refl, refl, refl, refl)
 
 -- Hand-made indexes. Of slot 0 its own box is 10, its previous box 20, and the box in the backend 30: soundness says nothing of boxes. It is
 -- the only one that is queued, if any is.
-pub hand : List ℕ → ℕ → ℕ → ℕ → Index
-hand mark kept used queued =
-    record {
-      generation = replicate 512 1;
-      mark = mark;
-      payload = replicate 1024 0;
-      aabb = put_box (replicate 2048 zero) 0 (box 10);
-      kept = set (replicate 512 0) 0 kept;
-      prev = put_box (replicate 2048 zero) 0 (box 20);
+pub blank : ℕ → Slot
+blank mark = record { generation = 1; mark = mark; payload = record { 0 = 0; 1 = 0 }; aabb = fresh_box; kept = 0; prev = fresh_box }
+
+pub hand : List Slot → ℕ → ℕ → ℕ → Index
+hand slots kept used queued =
+    record fresh_index {
+      entries = set slots 0 (record (entry_in slots 0) { aabb = box 10; kept = kept; prev = box 20 });
       used = used;
-      free = replicate 512 0;
-      frees = 0;
-      dirty = replicate 512 0;
       queued = queued;
-      backend = record { present = set (replicate 512 0) 0 1; boxes = put_box (replicate 2048 zero) 0 (box 30) };
+      backend = record { entries = set fresh_index.backend.entries 0 (record { present = 1; aabb = box 30 }) };
     }
 
 -- an empty slot; an entry without a mark; with a previous box; 512 entries, the first of them marked removed
 pub vacant : ℕ → Index
-vacant queued = hand (replicate 512 0) 0 0 queued
+vacant queued = hand (replicate 512 (blank 0)) 0 0 queued
 
 pub plain : ℕ → Index
-plain queued = hand (set (replicate 512 0) 0 1) 0 1 queued
+plain queued = hand (set (replicate 512 (blank 0)) 0 (blank 1)) 0 1 queued
 
 pub past : ℕ → Index
-past queued = hand (set (replicate 512 0) 0 1) 1 1 queued
+past queued = hand (set (replicate 512 (blank 0)) 0 (blank 1)) 1 1 queued
 
 pub brim : Index
-brim = hand (set (replicate 512 1) 0 4) 0 512 1
+brim = hand (set (replicate 512 (blank 1)) 0 (blank 4)) 0 512 1
 
 -- sound by the definition, although no call makes these very values: document 01's "Sound index" lets an empty and an unmarked slot stand in
 -- the queue
 pub hand_sound : (sound_index (vacant 1) ≡ true) × (sound_index (plain 1) ≡ true) × (sound_index (past 0) ≡ true) × (sound_index (past 1) ≡ true) × (sound_index brim ≡ true)
-unfolding num box hand vacant plain past brim sound_of once_below every times put_box round units odd size span climb
+unfolding num box blank hand vacant plain past brim fresh_index sound_of once_below every times round units odd size span climb
 hand_sound = (refl, refl, refl, refl, refl)
 
 pub hand_made : (waiting (vacant 1) ≡ [] ∷ [] ∷ [] ∷ [] ∷ [])  -- a queued slot that is empty does nothing
@@ -190,7 +186,7 @@ pub hand_made : (waiting (vacant 1) ≡ [] ∷ [] ∷ [] ∷ [] ∷ [])  -- a qu
     × (told (vacant 1) (remove first) ≡ refused 10)
     × (told brim (insert (box 40) none) ≡ refused 11)  -- a removed entry takes its slot until the commit
     × (told (after brim settle) (insert (box 40) none) ≡ gives (key (key_of 0 2)))
-unfolding computed none hand vacant plain past brim
+unfolding computed none blank hand vacant plain past brim
 hand_made = (refl, refl, refl, refl, refl, refl, refl, refl, refl, refl, refl, refl, refl, refl, refl, refl, refl, refl, refl, refl, refl, refl)
 
 -- what the rows above leave open: removed twice, a previous box after its commit, slots in order, keys of a slot that is used again
@@ -207,28 +203,22 @@ unfolding computed
 further = (refl, refl, refl, refl, refl, refl, refl, refl, refl)
 
 -- slots above 256, and a payload whose generation is not its key's
-pub wide : (told (hand (set (replicate 512 1) 511 0) 0 511 0) (insert (box 40) none) ≡ gives (key (key_of 511 1)))
-    × (live (hand (set (replicate 512 1) 511 0) 0 511 0) (key_of 300 1) ≡ true)
-    × (query.entries (done (insert (box 10) (record { 0 = 10; 1 = 7 }) ∷ settle ∷ [])).generation (done (insert (box 10) (record { 0 = 10; 1 = 7 }) ∷ settle ∷ [])).payload (0 ∷ []) ≡ 0 ∷ 1 ∷ 10 ∷ 7 ∷ [])
-unfolding computed hand
+pub wide : (told (hand (set (replicate 512 (blank 1)) 511 (blank 0)) 0 511 0) (insert (box 40) none) ≡ gives (key (key_of 511 1)))
+    × (live (hand (set (replicate 512 (blank 1)) 511 (blank 0)) 0 511 0) (key_of 300 1) ≡ true)
+    × (query.entries (done (insert (box 10) (record { 0 = 10; 1 = 7 }) ∷ settle ∷ [])) (0 ∷ []) ≡ 0 ∷ 1 ∷ 10 ∷ 7 ∷ [])
+unfolding computed blank hand
 wide = (refl, refl, refl)
 
 -- unsound indexes, each by one condition of document 01 or of the tables' shape; every call answers 1
 pub broken : ℕ → ℕ → List ℕ → ℕ → List ℕ → ℕ → Index
 broken used frees free queued dirty mark =
-    record {
-      generation = replicate 512 1;
-      mark = set (replicate 512 0) 0 mark;
-      payload = replicate 1024 0;
-      aabb = replicate 2048 zero;
-      kept = replicate 512 0;
-      prev = replicate 2048 zero;
+    record fresh_index {
+      entries = set (replicate 512 (blank 0)) 0 (blank mark);
       used = used;
       free = free;
       frees = frees;
       dirty = dirty;
       queued = queued;
-      backend = record { present = replicate 512 0; boxes = replicate 2048 zero };
     }
 
 pub unsound : (sound_index (broken 1 0 (replicate 512 0) 1 (replicate 512 0) 2) ≡ true)  -- one added entry, queued: sound
@@ -248,7 +238,7 @@ pub unsound : (sound_index (broken 1 0 (replicate 512 0) 1 (replicate 512 0) 2) 
     × (told (broken 0 1 (replicate 512 0) 0 (replicate 512 0) 0) (commit 0 0 0 0) ≡ refused 1)
     × (told (broken 0 1 (replicate 512 0) 0 (replicate 512 0) 0) (query_rect (box 10) 0) ≡ refused 1)
     × (told (broken 0 1 (replicate 512 0) 0 (replicate 512 0) 0) (query_point zero zero 0) ≡ refused 1)
-unfolding computed none broken point_slots
+unfolding computed none blank broken point_slots
 unsound = (refl, refl, refl, refl, refl, refl, refl, refl, refl, refl, refl, refl, refl, refl, refl, refl, refl)
 
 -- 8, for each of the four rooms and for a query's

@@ -1,5 +1,5 @@
 -- The test of soundness is exact: it passes if and only if document 01's "Sound index" holds of the tables. By counting in between.
-use mathlib.Core.Path.{◌≡◌, refl, ◌∙◌}
+use mathlib.Core.Path.{◌≡◌, refl, ap, ◌∙◌}
 use mathlib.Core.Bool.{◌&&◌, ◌||◌}
 use mathlib.Core.List.{List}
 use Prim.Native.Nat.{ℕ, ◌≤◌, ◌<◌}
@@ -13,6 +13,8 @@ use Rattle.counting.specs.Lists.{Tells, once_below}
 use Rattle.counting.proofs.Counting.{tally_small}
 use Rattle.counting.proofs.Kit.{both, at_most, less, equal, every_tells, through, unless}
 use Rattle.counting.proofs.Words.{OnceBelow, once_below_tells, find, seen, small, once_of}
+use Rattle.index_types.specs.declared.Slot.{Slot}
+use Rattle.index_types.specs.Slots.{no_entry, entry_in}
 use Rattle.index_sound.specs.Sound.{Empty, SoundOf, empty, slot_right, sound_of, SlotOf, CountOf}
 
 -- ---- one slot
@@ -30,59 +32,60 @@ slot_tells x used mark free queue =
 
 -- ---- the tables, by counting
 
-module _ (mark free : List ℕ) (frees : ℕ) (dirty : List ℕ) (queued used : ℕ) (lm : length mark ≡ 512) (lf : length free ≡ 512) (lq : length dirty ≡ 512) where
-  abbrev Slot : ℕ → Type 0
-  Slot x = SlotOf x used (get_or mark x 0) (times x (take frees free)) (times x (take queued dirty))
+module _ (entries : List Slot) (free : List ℕ) (frees : ℕ) (dirty : List ℕ) (queued used : ℕ) (lm : length entries ≡ 512) (lf : length free ≡ 512) (lq : length dirty ≡ 512) where
+  abbrev Right : ℕ → Type 0
+  Right x = SlotOf x used (entry_in entries x).mark (times x (take frees free)) (times x (take queued dirty))
 
-  gather : (used ≤ 512) × (OnceBelow 512 free frees × (OnceBelow 512 dirty queued × ((x : ℕ) → x < 512 → Slot x))) → CountOf mark free frees dirty queued used
+  gather : (used ≤ 512) × (OnceBelow 512 free frees × (OnceBelow 512 dirty queued × ((x : ℕ) → x < 512 → Right x))) → CountOf entries free frees dirty queued used
   gather p = record { used_fits = p.0; free_fits = p.1.0.fits; queue_fits = p.1.1.0.fits; slot = at; low = p.1.1.0.low; once = p.1.1.0.once }
     where
-      at : (x : ℕ) → Slot x
+      at : (x : ℕ) → Right x
       at x =
           elim (dec_lt x 512) [
             | yes l ↦ p.1.1.1 x l
             | no g ↦
-                let z : get_or mark x 0 ≡ 0 = get_or-eq_default mark 0 (omega arith) in
+                let past : length entries ≤ x = omega arith in
+                let z : (entry_in entries x).mark ≡ 0 = ap (λ (e : Slot). e.mark) (get_or-eq_default entries no_entry past) in
                 let u = p.0 in
                 record { past = λ _. z; counted = rw (le-ltb x used (omega arith)) (p.1.0.low x (omega arith)); waits = λ h. absurd (omega arith) }
           ]
 
-  spread : CountOf mark free frees dirty queued used → (used ≤ 512) × (OnceBelow 512 free frees × (OnceBelow 512 dirty queued × ((x : ℕ) → x < 512 → Slot x)))
+  spread : CountOf entries free frees dirty queued used → (used ≤ 512) × (OnceBelow 512 free frees × (OnceBelow 512 dirty queued × ((x : ℕ) → x < 512 → Right x)))
   spread C =
       let u = C.used_fits in (
         u,
         (
-          record { fits = C.free_fits; low = λ x g. (C.slot x).counted ∙ rw (le-ltb x used (omega arith)); once = λ x. rw (C.slot x).counted (tally_small (empty mark used x)) },
+          record { fits = C.free_fits; low = λ x g. (C.slot x).counted ∙ rw (le-ltb x used (omega arith)); once = λ x. rw (C.slot x).counted (tally_small (empty entries used x)) },
           (record { fits = C.queue_fits; low = C.low; once = C.once }, λ x l. C.slot x),
         ),
       )
 
-  pub count_tells : Tells (sound_of mark free frees dirty queued used) (CountOf mark free frees dirty queued used)
+  pub count_tells : Tells (sound_of entries free frees dirty queued used) (CountOf entries free frees dirty queued used)
   unfolding sound_of
   count_tells =
       through gather spread
       (both (leb used 512) _ (at_most used 512)
       (both (once_below 512 free frees) _ (once_below_tells 512 free frees (omega arith))
       (both (once_below 512 dirty queued) _ (once_below_tells 512 dirty queued (omega arith))
-      (every_tells 512 (λ x. slot_right x used (get_or mark x 0) (times x (take frees free)) (times x (take queued dirty))) Slot
-      (λ x. slot_tells x used (get_or mark x 0) (times x (take frees free)) (times x (take queued dirty)))))))
+      (every_tells 512 (λ x. slot_right x used (entry_in entries x).mark (times x (take frees free)) (times x (take queued dirty))) Right
+      (λ x. slot_tells x used (entry_in entries x).mark (times x (take frees free)) (times x (take queued dirty)))))))
 
   -- ---- counting and words
 
-  is_empty : (x : ℕ) → Empty mark used x → tally (empty mark used x) ≡ 1
+  is_empty : (x : ℕ) → Empty entries used x → tally (empty entries used x) ≡ 1
   is_empty x d = rw (lt-ltb x used d.0, d.1)
 
-  empty_of : (x : ℕ) → 1 ≤ tally (empty mark used x) → Empty mark used x
+  empty_of : (x : ℕ) → 1 ≤ tally (empty entries used x) → Empty entries used x
   empty_of x h =
       elim (dec_lt x used) [
-        | yes l ↦ elim (ℕ_discrete (get_or mark x 0) 0) [
+        | yes l ↦ elim (ℕ_discrete (entry_in entries x).mark 0) [
           | yes z ↦ (l, z)
-          | no n ↦ absurd (omega (arith, rw (lt-ltb x used l, ne_eqb (get_or mark x 0) 0 n) at h))
+          | no n ↦ absurd (omega (arith, rw (lt-ltb x used l, ne_eqb (entry_in entries x).mark 0 n) at h))
         ]
         | no g ↦ absurd (omega (arith, rw (le-ltb x used (omega arith)) at h))
       ]
 
-  pub worded : CountOf mark free frees dirty queued used → SoundOf mark free frees dirty queued used
+  pub worded : CountOf entries free frees dirty queued used → SoundOf entries free frees dirty queued used
   worded C =
       let ff : frees ≤ length free = omega (arith, C.free_fits) in
       let qf : queued ≤ length dirty = omega (arith, C.queue_fits) in
@@ -97,12 +100,12 @@ module _ (mark free : List ℕ) (frees : ℕ) (dirty : List ℕ) (queued used : 
         ];
         free_empty = λ x w. empty_of x (omega (arith, seen free frees ff x w, (C.slot x).counted));
         empty_free = λ x d. find free frees ff x (omega (arith, is_empty x d, (C.slot x).counted));
-        free_once = once_of free frees ff (λ x. rw (C.slot x).counted (tally_small (empty mark used x)));
+        free_once = once_of free frees ff (λ x. rw (C.slot x).counted (tally_small (empty entries used x)));
         marked_queued = λ x m. find dirty queued qf x (omega (arith, (C.slot x).waits m));
         queue_once = once_of dirty queued qf C.once;
       }
 
-  pub counted : SoundOf mark free frees dirty queued used → CountOf mark free frees dirty queued used
+  pub counted : SoundOf entries free frees dirty queued used → CountOf entries free frees dirty queued used
   counted S = record {
     used_fits = S.used_fits;
     free_fits = S.free_fits;
@@ -121,10 +124,10 @@ module _ (mark free : List ℕ) (frees : ℕ) (dirty : List ℕ) (queued used : 
       qf : queued ≤ length dirty
       qf = omega (arith, S.queue_fits)
 
-      due : (x : ℕ) → times x (take frees free) ≡ tally (empty mark used x)
+      due : (x : ℕ) → times x (take frees free) ≡ tally (empty entries used x)
       due x =
           elim (dec_lt (times x (take frees free)) 1) [
-            | yes z ↦ elim (dec_lt (tally (empty mark used x)) 1) [
+            | yes z ↦ elim (dec_lt (tally (empty entries used x)) 1) [
               | yes y ↦ omega arith
               | no g ↦ absurd (omega (arith, seen free frees ff x (S.empty_free x (empty_of x (omega arith)))))
             ]
@@ -132,5 +135,5 @@ module _ (mark free : List ℕ) (frees : ℕ) (dirty : List ℕ) (queued used : 
           ]
 
   -- the definition's test is exact
-  pub decides : Tells (sound_of mark free frees dirty queued used) (SoundOf mark free frees dirty queued used)
+  pub decides : Tells (sound_of entries free frees dirty queued used) (SoundOf entries free frees dirty queued used)
   decides = through worded counted count_tells

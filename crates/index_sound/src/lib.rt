@@ -3,6 +3,7 @@
 
 ghost use Rattle.std.specs.Prelude.{◌≡◌, get_or};
 ghost use Rattle.counting.specs.Times.{every};
+ghost use Rattle.index_types.specs.Slots.{entry};
 ghost use Rattle.index_sound.specs.Sound as spec;
 
 use counting::counted;
@@ -18,9 +19,9 @@ fn slot_right(x: usize, used: usize, mark: u8, free: u8, queue: u8) -> bool
 
 // All 512 slots.
 fn slots_right(index: &Index, free: &[u8; 512], queue: &[u8; 512]) -> bool
-    ensures { result ≡ every 512 (λ x. spec.slot_right x index.now.used (get_or index.now.mark x 0) (get_or free.now x 0) (get_or queue.now x 0)) }
+    ensures { result ≡ every 512 (λ x. spec.slot_right x index.now.used (entry index.now x).mark (get_or free.now x 0) (get_or queue.now x 0)) }
 {
-    (0..512).all(|x| slot_right(x, index.used, index.mark[x], free[x], queue[x]))
+    (0..512).all(|x| slot_right(x, index.used, index.entries[x].mark, free[x], queue[x]))
 }
 
 // Whether the index is sound.
@@ -28,7 +29,7 @@ pub fn is_sound(index: &Index) -> bool
     ensures test { result ≡ spec.sound_index index.now }
     ensures lengths { spec.Shaped index.now }
 {
-    prove!(index.mark[..].len() == 512);
+    prove!(index.entries[..].len() == 512);
     prove!(index.free[..].len() == 512);
     prove!(index.dirty[..].len() == 512);
     let Some(free) = counted(&index.free, index.frees) else {

@@ -1,6 +1,6 @@
 -- From fresh, an entry without a mark has its own box in the backend; so after a commit every entry has. An empty slot and an entry that is
 -- only added have none, so that a query never visits an entry before its first commit.
-use mathlib.Core.Path.{◌≡◌, refl, sym, ◌∙◌, subst}
+use mathlib.Core.Path.{◌≡◌, refl, ◌∙◌, subst}
 use mathlib.Core.Bool.{Bool, true, false, not, ◌&&◌, cond}
 use mathlib.Core.List.{List, [], ◌∷◌}
 use Prim.Native.Nat.{ℕ, zero, suc, ◌≤◌, ◌<◌}
@@ -8,20 +8,21 @@ use native.Mathlib.Omega.{arith}
 use native.Mathlib.Decide.{dec_lt, ℕ_discrete}
 use borrow.Author.Tests.{eq-eqb, eqb-true, ne_eqb}
 use lib.Dec.{eqb}
-use lib.ListN.{get_or, set, length-set}
+use lib.ListN.{set, length-set}
 use lib.Seq.{get_or-set_same, get_or-set_other}
 use lib.Ieee.{Float}
 use Rattle.index_types.specs.declared.Aabb2D.{Aabb2D}
 use Rattle.index_types.specs.declared.NodeId.{NodeId}
 use Rattle.index_types.specs.declared.Key.{Key}
+use Rattle.index_types.specs.declared.Slot.{Slot}
+use Rattle.index_types.specs.declared.Stored.{Stored}
 use Rattle.index_types.specs.Boxes.{overlaps, contains_point}
-use Rattle.index_types.specs.flat_tables.Tables.{box_at, put_box}
-use Rattle.index_types.proofs.flat_tables.Laws.{box_other}
+use Rattle.index_types.specs.Slots.{no_entry, none_stored, entry_in, entry, stored}
+use Rattle.index_types.proofs.Slots.{part_everywhere}
 use Rattle.counting.specs.Times.{tally, times}
 use Rattle.counting.proofs.Counting.{hit, miss, times_append}
 use Rattle.counting.proofs.Kit.{contra}
 use Rattle.counting.proofs.Conditions.{left_keeps}
-use Rattle.counting.proofs.Counts.{zero_at}
 use Rattle.index_entries.specs.declared.reads.Mark.{Mark}
 use Rattle.index_entries.specs.declared.reads.Mark.TheVariants as is
 use Rattle.index_entries.specs.Entries.{updated_mark, removed_mark}
@@ -34,7 +35,7 @@ use Rattle.index_commit.proofs.Agree.{own_work}
 use Rattle.index_commit.specs.Agree.{Has, unseen, Agree}
 use Rattle.index_query.specs.Query.{slots}
 use Rattle.index_types.specs.declared.Index.{Index}
-use Rattle.index_state.specs.Index.{full, fresh_index, slot_of, insert_of, live, mark_at, update_of, remove_of, work_of, commit_of, rect_slots, point_slots}
+use Rattle.index_state.specs.Index.{full, fresh_box, fresh_entry, fresh_index, slot_of, insert_of, live, mark_at, update_of, remove_of, work_of, commit_of, rect_slots, point_slots}
 use Rattle.index_state.specs.Calls.{Call, insert, update, remove, clear, commit, query_rect, query_point, short, refusal, accepted, after}
 use Rattle.index_state.specs.Run.{run}
 use Rattle.index_state.specs.Claims.{Own, Visited}
@@ -42,21 +43,20 @@ use Rattle.index_state.proofs.Calls.{accepts, commit_long}
 use Rattle.index_state.proofs.Soundness.{Kept, counts, room_left, fresh_kept, after_kept, run_kept, insert_accepted, update_accepted, remove_accepted}
 
 -- a slot that gets a mark, or is emptied, asks that it had a box before if it has to have one now; the others are as they were
-pub away : (mark present : List ℕ) (boxes aabb aabb' : List Float) (x v : ℕ) → x < 512 → (v ≡ 1 → ⊥) → unseen (get_or mark x 0) ≡ unseen v → ((y : ℕ) → (y ≡ x → ⊥) → box_at aabb' y ≡ box_at aabb y)
-    → Agree mark present boxes aabb → Agree (set mark x v) present boxes aabb'
-away mark present boxes aabb aabb' x v h n u same A =
-    let m = A.mark_whole in
+pub away : (entries : List Slot) (stored : List Stored) (x : ℕ) (e : Slot) → x < 512 → (e.mark ≡ 1 → ⊥) → unseen (entry_in entries x).mark ≡ unseen e.mark
+    → Agree entries stored → Agree (set entries x e) stored
+away entries stored x e h n u A =
+    let l = A.entries_whole in
     record {
-      mark_whole = length-set mark x v ∙ m;
-      present_whole = A.present_whole;
-      boxes_whole = A.boxes_whole;
-      own = λ y e. elim (ℕ_discrete y x) [
-        | yes w ↦ absurd (n (sym (get_or-set_same mark x v 0 (omega arith)) ∙ rw w at e))
-        | no d ↦ let H = A.own y (sym (get_or-set_other mark x y v 0 d) ∙ e) in (H.0, H.1 ∙ sym (same y d))
+      entries_whole = length-set entries x e ∙ l;
+      stored_whole = A.stored_whole;
+      own = λ y m. elim (ℕ_discrete y x) [
+        | yes w ↦ absurd (n (rw (w, get_or-set_same entries x e no_entry (omega arith)) at m))
+        | no d ↦ rw (get_or-set_other entries x y e no_entry d) (A.own y (rw (get_or-set_other entries x y e no_entry d) at m))
       ];
       none = λ y. elim (ℕ_discrete y x) [
-        | yes w ↦ rw (w, get_or-set_same mark x v 0 (omega arith)) (A.none x ∙ u)
-        | no d ↦ rw (get_or-set_other mark x y v 0 d) (A.none y)
+        | yes w ↦ rw (w, get_or-set_same entries x e no_entry (omega arith)) (A.none x ∙ u)
+        | no d ↦ rw (get_or-set_other entries x y e no_entry d) (A.none y)
       ];
     }
 
@@ -89,37 +89,47 @@ module _ (ix : Index) (K : Kept ix) (O : Own ix) where
   insert_own : (b : Aabb2D) (p : NodeId) → full ix ≡ false → Own (insert_of ix b p)
   insert_own b p F =
       let S = K.shaped in
-      let h = slot_fits ix.mark ix.free ix.frees ix.dirty ix.queued ix.used (counts ix K) S.mark_whole S.free_whole S.dirty_whole (room_left ix F) in
-      let z = slot_empty ix.mark ix.free ix.frees ix.dirty ix.queued ix.used (counts ix K) S.mark_whole S.free_whole S.dirty_whole (room_left ix F) in
-      away ix.mark ix.backend.present ix.backend.boxes ix.aabb (put_box ix.aabb (slot_of ix) b) (slot_of ix) 2 h (λ e. omega arith) (rw z) (λ y d. box_other ix.aabb (slot_of ix) b y d) O
+      let h = slot_fits ix.entries ix.free ix.frees ix.dirty ix.queued ix.used (counts ix K) S.entries_whole S.free_whole S.dirty_whole (room_left ix F) in
+      let z = slot_empty ix.entries ix.free ix.frees ix.dirty ix.queued ix.used (counts ix K) S.entries_whole S.free_whole S.dirty_whole (room_left ix F) in
+      away ix.entries ix.backend.entries (slot_of ix) _ h (λ e. omega arith) (rw z) O
 
   update_own : (k : Key) (b : Aabb2D) → live ix k ≡ true → Own (update_of ix k.0 b)
   update_own k b L =
-      away ix.mark ix.backend.present ix.backend.boxes ix.aabb (put_box ix.aabb k.0 b) k.0 (updated_mark (mark_at ix k.0)) (live_slot ix.generation ix.mark k L).0 (updated_mark_lem (mark_at ix k.0)) (updated_unseen (kind (get_or ix.mark k.0 0) (live_slot ix.generation ix.mark k L).1)) (λ y d. box_other ix.aabb k.0 b y d) O
+      let l = live_slot ix k L in
+      away ix.entries ix.backend.entries k.0 _ l.0 (updated_mark_lem (mark_at ix k.0)) (updated_unseen (kind (entry ix k.0).mark l.1)) O
 
   remove_own : (k : Key) → live ix k ≡ true → Own (remove_of ix k.0)
   remove_own k L =
-      away ix.mark ix.backend.present ix.backend.boxes ix.aabb ix.aabb k.0 (removed_mark (mark_at ix k.0)) (live_slot ix.generation ix.mark k L).0 (removed_mark_lem (mark_at ix k.0)) (removed_unseen (kind (get_or ix.mark k.0 0) (live_slot ix.generation ix.mark k L).1)) (λ y d. refl) O
+      let l = live_slot ix k L in
+      away ix.entries ix.backend.entries k.0 _ l.0 (removed_mark_lem (mark_at ix k.0)) (removed_unseen (kind (entry ix k.0).mark l.1)) O
 
   commit_own : Own (commit_of ix (work_of ix))
   unfolding work_of
   commit_own =
       let S = K.shaped in
       let C = counts ix K in
-      own_work ix.aabb ix.prev ix.dirty ix.queued (start ix.mark ix.kept ix.free ix.frees ix.backend.present ix.backend.boxes) (omega (arith, S.dirty_whole, C.queue_fits))
-      (λ k l. slot_low ix.mark ix.free ix.frees ix.dirty ix.queued ix.used k C S.dirty_whole l) ix.queued (omega arith) O
+      own_work ix.dirty ix.queued (start ix) (omega (arith, S.dirty_whole, C.queue_fits))
+      (λ k l. slot_low ix.entries ix.free ix.frees ix.dirty ix.queued ix.used k C S.dirty_whole l) ix.queued (omega arith) O
 
   -- after the commit no entry is marked
-  commit_plain : (x : ℕ) → get_or (commit_of ix (work_of ix)).mark x 0 < 2
+  commit_plain : (x : ℕ) → (entry (commit_of ix (work_of ix)) x).mark < 2
   unfolding work_of
   commit_plain x =
       let S = K.shaped in
-      unmarked ix.aabb ix.prev ix.dirty ix.queued ix.used (start ix.mark ix.kept ix.free ix.frees ix.backend.present ix.backend.boxes) (counts ix K) S.mark_whole S.free_whole S.dirty_whole x
+      unmarked ix.dirty ix.queued ix.used (start ix) (counts ix K) S.entries_whole S.free_whole S.dirty_whole x
 
 -- a fresh index has no entry
-fresh_own : Own fresh_index
+blank : (x : ℕ) → (entry fresh_index x).mark ≡ 0
 unfolding fresh_index
-fresh_own = record { mark_whole = refl; present_whole = refl; boxes_whole = refl; own = λ x e. absurd (omega (arith, zero_at 512 x)); none = λ x. rw (zero_at 512 x) }
+blank x = part_everywhere no_entry fresh_entry (λ (e : Slot). e.mark) refl 512 x
+
+none_there : (x : ℕ) → (stored fresh_index x).present ≡ 0
+unfolding fresh_index
+none_there x = part_everywhere none_stored (record { present = 0; aabb = fresh_box }) (λ (s : Stored). s.present) refl 512 x
+
+pub fresh_own : Own fresh_index
+unfolding fresh_index
+fresh_own = record { entries_whole = refl; stored_whole = refl; own = λ x e. absurd (omega (arith, blank x)); none = λ x. rw (blank x, none_there x) }
 
 accepted_own : (ix : Index) (c : Call) → Kept ix → Own ix → refusal ix c ≡ 0 → Own (accepted ix c)
 unfolding accepted
@@ -146,7 +156,7 @@ own_from_fresh cs = run_own fresh_index cs fresh_kept fresh_own
 
 -- so after an accepted commit every entry has
 pub own_after_commit : (cs : List Call) (a r o n : ℕ) → short a r o n ≡ false → let ix = after (run fresh_index cs) (commit a r o n) in
-    (x : ℕ) → (get_or ix.mark x 0 ≡ 0 → ⊥) → Has ix.backend.present ix.backend.boxes ix.aabb x
+    (x : ℕ) → ((entry ix x).mark ≡ 0 → ⊥) → Has ix.entries ix.backend.entries x
 unfolding accepted
 own_after_commit cs a r o n h x e =
     let ix = run fresh_index cs in
@@ -154,7 +164,7 @@ own_after_commit cs a r o n h x e =
     let c = (accepts ix (commit a r o n) (commit_long ix (rw K.sound) a r o n h)).1 in
     let O : Own (commit_of ix (work_of ix)) = commit_own ix K (own_from_fresh cs) in
     let p = commit_plain ix K (own_from_fresh cs) x in
-    subst (λ (z : Index). Has z.backend.present z.backend.boxes z.aabb x) c (O.own x (plain p (λ z. e (subst (λ (y : Index). get_or y.mark x 0 ≡ 0) c z))))
+    subst (λ (z : Index). Has z.entries z.backend.entries x) c (O.own x (plain p (λ z. e (subst (λ (y : Index). (entry y x).mark ≡ 0) c z))))
   where
     plain : {m : ℕ} → m < 2 → (m ≡ 0 → ⊥) → m ≡ 1
     plain l g = omega arith
@@ -170,9 +180,9 @@ module _ (m p : ℕ) (e : eqb p 0 ≡ unseen m) where
   visit b = ((λ z. rw (e, z)), (λ z. rw (e, z)), λ f g. rw (e, ne_eqb m 0 f, ne_eqb m 2 g))
 
 -- after every list of calls from fresh, an empty slot and an entry that is only added have no box in the backend, and every other entry has
-pub box_from_fresh : (cs : List Call) (x : ℕ) → let ix = run fresh_index cs in let m = get_or ix.mark x 0 in let p = get_or ix.backend.present x 0 in
+pub box_from_fresh : (cs : List Call) (x : ℕ) → let ix = run fresh_index cs in let m = (entry ix x).mark in let p = (stored ix x).present in
     (m ≡ 0 → p ≡ 0) × (m ≡ 2 → p ≡ 0) × ((m ≡ 0 → ⊥) → (m ≡ 2 → ⊥) → p ≡ 0 → ⊥)
-box_from_fresh cs x = let ix = run fresh_index cs in no_box (get_or ix.mark x 0) (get_or ix.backend.present x 0) ((own_from_fresh cs).none x)
+box_from_fresh cs x = let ix = run fresh_index cs in no_box (entry ix x).mark (stored ix x).present ((own_from_fresh cs).none x)
 
 -- how often a slot stands among those below n that a test takes
 module _ (p : ℕ → Bool) (x : ℕ) where
@@ -203,15 +213,15 @@ module _ (p : ℕ → Bool) (x : ℕ) where
 
 module _ (ix : Index) (K : Kept ix) (O : Own ix) (q : Aabb2D → Bool) where
   abbrev test : ℕ → Bool
-  test y = not (eqb (get_or ix.backend.present y 0) 0) && (not (eqb (get_or ix.mark y 0) 0) && q (box_at ix.backend.boxes y))
+  test y = not (eqb (stored ix y).present 0) && (not (eqb (entry ix y).mark 0) && q (stored ix y).aabb)
 
   visited : (x : ℕ) → Visited ix q x (times x (slots 512 test))
   visited x =
-      let m = get_or ix.mark x 0 in
-      let v = visit m (get_or ix.backend.present x 0) (O.none x) (q (box_at ix.backend.boxes x)) in
+      let m = (entry ix x).mark in
+      let v = visit m (stored ix x).present (O.none x) (q (stored ix x).aabb) in
       let S = K.shaped in
       let C = counts ix K in
-      let low : (m ≡ 0 → ⊥) → times x (slots 512 test) ≡ tally (test x) = λ z. slots_below_lem test x 512 (omega (arith, C.used_fits, entry_used ix.mark ix.free ix.frees ix.dirty ix.queued ix.used C S.mark_whole x z)) in
+      let low : (m ≡ 0 → ⊥) → times x (slots 512 test) ≡ tally (test x) = λ z. slots_below_lem test x 512 (omega (arith, C.used_fits, entry_used ix.entries ix.free ix.frees ix.dirty ix.queued ix.used C S.entries_whole x z)) in
       record {
         empty = λ z. elim (dec_lt x 512) [ yes l ↦ slots_below_lem test x 512 l ∙ rw (v.0 z) | no g ↦ slots_past test x 512 (omega arith) ];
         added = λ z. low (λ e. omega arith) ∙ rw (v.1 z);

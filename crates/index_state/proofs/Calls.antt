@@ -89,7 +89,7 @@ or_none true b h = (h, sym (cc))
 -- a point is a rectangle of no size
 pub point_of_lem : (ix : Index) (x y : Float) → rect_slots ix (box.aabb x y x y) ≡ point_slots ix x y
 unfolding rect_slots point_slots
-point_of_lem ix x y = point_slots_lem ix.backend.present ix.backend.boxes ix.mark x y
+point_of_lem ix x y = point_slots_lem ix x y
 
 pub point_told : (ix : Index) (x y : Float) (len : ℕ) → told ix (query_rect (box.aabb x y x y) len) ≡ told ix (query_point x y len)
 unfolding told given refusal

@@ -24,8 +24,8 @@ use Rattle.index_state.proofs.Calls.{insert_full, insert_fits}
 use Rattle.index_state.proofs.Soundness.{Kept, fresh_kept, run_kept}
 
 module _ (ix : Index) (K : Kept ix) where
-  sound : SoundOf ix.mark ix.free ix.frees ix.dirty ix.queued ix.used
-  sound = let S = K.shaped in (decides ix.mark ix.free ix.frees ix.dirty ix.queued ix.used S.mark_whole S.free_whole S.dirty_whole).0 K.sound
+  sound : SoundOf ix.entries ix.free ix.frees ix.dirty ix.queued ix.used
+  sound = let S = K.shaped in (decides ix.entries ix.free ix.frees ix.dirty ix.queued ix.used S.entries_whole S.free_whole S.dirty_whole).0 K.sound
 
   held : (ix.frees ≡ 0) × (512 ≤ ix.used) → AllHeld ix
   held f x l z = let w = sound.empty_free x (omega (arith, f.1), z) in omega (arith, w.1, f.0)
@@ -76,9 +76,9 @@ module _ (ix : Index) (K : Kept ix) where
       }
 
 -- of every sound index
-pub refuses_11 : (ix : Index) → Shaped ix → SoundOf ix.mark ix.free ix.frees ix.dirty ix.queued ix.used → FullAt512 ix
+pub refuses_11 : (ix : Index) → Shaped ix → SoundOf ix.entries ix.free ix.frees ix.dirty ix.queued ix.used → FullAt512 ix
 refuses_11 ix S s =
-    let T = decides ix.mark ix.free ix.frees ix.dirty ix.queued ix.used S.mark_whole S.free_whole S.dirty_whole in
+    let T = decides ix.entries ix.free ix.frees ix.dirty ix.queued ix.used S.entries_whole S.free_whole S.dirty_whole in
     full_at ix (record { shaped = S; sound = T.1 s })
 
 -- and so after every list of calls from fresh

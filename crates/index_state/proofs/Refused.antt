@@ -33,10 +33,10 @@ only true false n T d = ((λ e p. contra (eq-eqb n 1 e) d), (λ q. absurd (q (T.
 
 module _ (ix : Index) (S : Shaped ix) where
   abbrev Sound : Type 0
-  Sound = SoundOf ix.mark ix.free ix.frees ix.dirty ix.queued ix.used
+  Sound = SoundOf ix.entries ix.free ix.frees ix.dirty ix.queued ix.used
 
   tells : Tells (sound_index ix) Sound
-  tells = decides ix.mark ix.free ix.frees ix.dirty ix.queued ix.used S.mark_whole S.free_whole S.dirty_whole
+  tells = decides ix.entries ix.free ix.frees ix.dirty ix.queued ix.used S.entries_whole S.free_whole S.dirty_whole
 
   number_1 : (c : Call) → Only Sound (refusal ix c)
   unfolding refusal lowest

@@ -36,13 +36,13 @@ pub record Kept (ix : Index) : Type 0 where
   pub sound : sound_index ix ≡ true
 
 abbrev pub Counts : Index → Type 0
-Counts ix = CountOf ix.mark ix.free ix.frees ix.dirty ix.queued ix.used
+Counts ix = CountOf ix.entries ix.free ix.frees ix.dirty ix.queued ix.used
 
 pub counts : (ix : Index) → Kept ix → Counts ix
-counts ix K = let S = K.shaped in (count_tells ix.mark ix.free ix.frees ix.dirty ix.queued ix.used S.mark_whole S.free_whole S.dirty_whole).0 K.sound
+counts ix K = let S = K.shaped in (count_tells ix.entries ix.free ix.frees ix.dirty ix.queued ix.used S.entries_whole S.free_whole S.dirty_whole).0 K.sound
 
 keeps : (ix : Index) → Shaped ix → Counts ix → Kept ix
-keeps ix S C = record { shaped = S; sound = (count_tells ix.mark ix.free ix.frees ix.dirty ix.queued ix.used S.mark_whole S.free_whole S.dirty_whole).1 C }
+keeps ix S C = record { shaped = S; sound = (count_tells ix.entries ix.free ix.frees ix.dirty ix.queued ix.used S.entries_whole S.free_whole S.dirty_whole).1 C }
 
 -- ---- lengths
 
@@ -79,39 +79,38 @@ module _ (ix : Index) (K : Kept ix) where
   insert_keeps : (b : Aabb2D) (p : NodeId) → full ix ≡ false → Kept (insert_of ix b p)
   insert_keeps b p F =
       keeps (insert_of ix b p)
-      (record { mark_whole = length-set ix.mark (slot_of ix) 2 ∙ S.mark_whole; free_whole = S.free_whole; dirty_whole = queue_length ix.dirty ix.queued (slot_of ix) ∙ S.dirty_whole })
-      (keep_insert ix.mark ix.free ix.frees ix.dirty ix.queued ix.used (counts ix K) S.mark_whole S.free_whole S.dirty_whole (room_left ix F))
+      (record { entries_whole = length-set ix.entries (slot_of ix) _ ∙ S.entries_whole; free_whole = S.free_whole; dirty_whole = queue_length ix.dirty ix.queued (slot_of ix) ∙ S.dirty_whole })
+      (keep_insert ix.entries ix.free ix.frees ix.dirty ix.queued ix.used (counts ix K) S.entries_whole S.free_whole S.dirty_whole (room_left ix F) _ refl)
 
   update_keeps : (k : Key) (b : Aabb2D) → live ix k ≡ true → Kept (update_of ix k.0 b)
   update_keeps k b L =
-      let l = live_slot ix.generation ix.mark k L in
+      let l = live_slot ix k L in
       keeps (update_of ix k.0 b)
-      (record { mark_whole = length-set ix.mark k.0 _ ∙ S.mark_whole; free_whole = S.free_whole; dirty_whole = dirty_length (mark_at ix k.0) ix.dirty ix.queued k.0 ∙ S.dirty_whole })
-      (keep_update ix.mark ix.free ix.frees ix.dirty ix.queued ix.used (counts ix K) S.mark_whole S.free_whole S.dirty_whole k.0 l.0 l.1)
+      (record { entries_whole = length-set ix.entries k.0 _ ∙ S.entries_whole; free_whole = S.free_whole; dirty_whole = dirty_length (mark_at ix k.0) ix.dirty ix.queued k.0 ∙ S.dirty_whole })
+      (keep_update ix.entries ix.free ix.frees ix.dirty ix.queued ix.used (counts ix K) S.entries_whole S.free_whole S.dirty_whole k.0 l.0 l.1 _ refl)
 
   remove_keeps : (k : Key) → live ix k ≡ true → Kept (remove_of ix k.0)
   remove_keeps k L =
-      let l = live_slot ix.generation ix.mark k L in
+      let l = live_slot ix k L in
       keeps (remove_of ix k.0)
       (record {
-        mark_whole = length-set ix.mark k.0 _ ∙ S.mark_whole;
+        entries_whole = length-set ix.entries k.0 _ ∙ S.entries_whole;
         free_whole = free_length (mark_at ix k.0) ix.free ix.frees k.0 ∙ S.free_whole;
         dirty_whole = dirty_length (mark_at ix k.0) ix.dirty ix.queued k.0 ∙ S.dirty_whole;
       })
-      (keep_remove ix.mark ix.free ix.frees ix.dirty ix.queued ix.used (counts ix K) S.mark_whole S.free_whole S.dirty_whole k.0 l.0 l.1)
+      (keep_remove ix.entries ix.free ix.frees ix.dirty ix.queued ix.used (counts ix K) S.entries_whole S.free_whole S.dirty_whole k.0 l.0 l.1 _ refl)
 
   commit_keeps : Kept (commit_of ix (work_of ix))
   unfolding work_of
   commit_keeps =
-      let w = start ix.mark ix.kept ix.free ix.frees ix.backend.present ix.backend.boxes in
-      let l = commit_whole ix.aabb ix.prev ix.dirty ix.queued ix.used w (counts ix K) S.mark_whole S.free_whole S.dirty_whole in
-      keeps (commit_of ix (work_of ix)) (record { mark_whole = l.0; free_whole = l.1; dirty_whole = S.dirty_whole })
-      (keep_commit ix.aabb ix.prev ix.dirty ix.queued ix.used w (counts ix K) S.mark_whole S.free_whole S.dirty_whole)
+      let l = commit_whole ix.dirty ix.queued ix.used (start ix) (counts ix K) S.entries_whole S.free_whole S.dirty_whole in
+      keeps (commit_of ix (work_of ix)) (record { entries_whole = l.0; free_whole = l.1; dirty_whole = S.dirty_whole })
+      (keep_commit ix.dirty ix.queued ix.used (start ix) (counts ix K) S.entries_whole S.free_whole S.dirty_whole)
 
 -- a fresh index is sound
 pub fresh_kept : Kept fresh_index
 unfolding fresh_index sound_of once_below every times
-fresh_kept = record { shaped = record { mark_whole = refl; free_whole = refl; dirty_whole = refl }; sound = refl }
+fresh_kept = record { shaped = record { entries_whole = refl; free_whole = refl; dirty_whole = refl }; sound = refl }
 
 -- ---- an accepted call's conditions hold
 
@@ -157,9 +156,9 @@ pub from_fresh : (cs : List Call) → sound_index (run fresh_index cs) ≡ true
 from_fresh cs = (run_kept fresh_index cs fresh_kept).sound
 
 -- in words
-pub sound_from_fresh : (cs : List Call) → let ix = run fresh_index cs in SoundOf ix.mark ix.free ix.frees ix.dirty ix.queued ix.used
+pub sound_from_fresh : (cs : List Call) → let ix = run fresh_index cs in SoundOf ix.entries ix.free ix.frees ix.dirty ix.queued ix.used
 sound_from_fresh cs =
     let ix = run fresh_index cs in
     let K = run_kept fresh_index cs fresh_kept in
     let S = K.shaped in
-    (decides ix.mark ix.free ix.frees ix.dirty ix.queued ix.used S.mark_whole S.free_whole S.dirty_whole).0 K.sound
+    (decides ix.entries ix.free ix.frees ix.dirty ix.queued ix.used S.entries_whole S.free_whole S.dirty_whole).0 K.sound

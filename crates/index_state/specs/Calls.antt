@@ -112,7 +112,7 @@ pub record CommitRooms (ix : Index) (added removed old new added' removed' old' 
 
 -- of a query that visits these slots
 unfoldable pub query_room : Index → List ℕ → List ℕ → List ℕ
-query_room ix xs room = left_if (lowest (conditions_of_query ix (length room))) room (query.entries_in_front (query.entries ix.generation ix.payload xs) room)
+query_room ix xs room = left_if (lowest (conditions_of_query ix (length room))) room (query.entries_in_front (query.entries ix xs) room)
 
 -- all that an answer of a call is made of: unfolding this unfolds each of them
 unfoldable pub answered : Unit {0}

@@ -1,8 +1,8 @@
 -- What the theorems over every list of calls, and over every index, claim (proofs/Refused.antt, proofs/Full.antt, proofs/Backend.antt).
-use Rattle.std.specs.Prelude.{ℕ, ◌≤◌, ◌≡◌, Bool, get_or}
+use Rattle.std.specs.Prelude.{ℕ, ◌≤◌, ◌≡◌, Bool}
 use Rattle.index_types.specs.declared.Aabb2D.{Aabb2D}
 use Rattle.index_types.specs.declared.NodeId.{NodeId}
-use Rattle.index_types.specs.flat_tables.Tables.{box_at}
+use Rattle.index_types.specs.Slots.{entry, stored}
 use Rattle.counting.specs.Times.{tally}
 use Rattle.counting.specs.Conditions.{Told, refused, gives}
 use Rattle.index_commit.specs.Agree.{Agree}
@@ -23,12 +23,12 @@ pub record FullAt512 (ix : Index) : Type 0 where
 
 -- the backend and the entries agree
 abbrev pub Own : Index → Type 0
-Own ix = Agree ix.mark ix.backend.present ix.backend.boxes ix.aabb
+Own ix = Agree ix.entries ix.backend.entries
 
 -- how often a query, whose test of a box is q, visits a slot: an empty slot and an entry that is only added never; an entry without a mark
 -- once if its own box passes; one that is updated or removed once if the box passes that the last commit has left
 pub record Visited (ix : Index) (q : Aabb2D → Bool) (x n : ℕ) : Type 0 where
-  pub empty : get_or ix.mark x 0 ≡ 0 → n ≡ 0
-  pub added : get_or ix.mark x 0 ≡ 2 → n ≡ 0
-  pub unmarked : get_or ix.mark x 0 ≡ 1 → n ≡ tally (q (box_at ix.aabb x))
-  pub marked : 3 ≤ get_or ix.mark x 0 → n ≡ tally (q (box_at ix.backend.boxes x))
+  pub empty : (entry ix x).mark ≡ 0 → n ≡ 0
+  pub added : (entry ix x).mark ≡ 2 → n ≡ 0
+  pub unmarked : (entry ix x).mark ≡ 1 → n ≡ tally (q (entry ix x).aabb)
+  pub marked : 3 ≤ (entry ix x).mark → n ≡ tally (q (stored ix x).aabb)

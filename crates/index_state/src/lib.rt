@@ -5,28 +5,35 @@
 ghost use Rattle.std.specs.Prelude.{◌≡◌};
 ghost use Rattle.index_state.specs.Index as spec;
 
-use index_types::{FlatVec, Index};
+use index_types::{Aabb2D, FlatVec, Index, NodeId, Slot, Stored};
 
 // An empty index.
 pub fn fresh() -> Index
     ensures { result ≡ spec.fresh_index }
 {
-    let backend = FlatVec {
-        present: [0u8; 512],
-        boxes: [0.0; 2048],
+    let aabb = Aabb2D {
+        min_x: 0.0,
+        min_y: 0.0,
+        max_x: 0.0,
+        max_y: 0.0,
+    };
+    let entry = Slot {
+        generation: 0,
+        mark: 0,
+        payload: NodeId(0, 0),
+        aabb,
+        kept: 0,
+        prev: aabb,
     };
     Index {
-        generation: [0u32; 512],
-        mark: [0u8; 512],
-        payload: [0u32; 1024],
-        aabb: [0.0; 2048],
-        kept: [0u8; 512],
-        prev: [0.0; 2048],
+        entries: [entry; 512],
         used: 0,
         free: [0u32; 512],
         frees: 0,
         dirty: [0u32; 512],
         queued: 0,
-        backend,
+        backend: FlatVec {
+            entries: [Stored { present: 0, aabb }; 512],
+        },
     }
 }

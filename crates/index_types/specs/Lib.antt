@@ -1,4 +1,4 @@
-pub mod flat_tables
 pub mod rooms
 pub mod Boxes
+pub mod Slots
 pub mod Refusals

@@ -1,1 +1,3 @@
+pub mod Stride
+pub mod Tables
 pub mod Rooms

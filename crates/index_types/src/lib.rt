@@ -2,8 +2,7 @@
 // NaN and inverted edges included. Each contract says which definition of specs/ the result equals.
 #![tactic(auto)]
 
-pub mod flat_tables; // boxes and ids in tables of numbers
-pub mod rooms; // ids in lent room
+pub mod rooms; // boxes and ids in lent room
 
 ghost use Rattle.std.specs.Prelude.{◌≡◌};
 ghost use Rattle.index_types.specs.Boxes as spec;
@@ -25,23 +24,35 @@ pub struct Aabb2D {
     pub max_y: f64,
 }
 
-// FlatVec: a box for each slot whose entry the last commits have left there. 0 in `present` stands for none.
+// A slot of the index and the entry that it holds. Mark and flag are numbers: a call takes any index, also one made by hand, and a narrower type would
+// ask more of its caller.
 #[derive(Clone, Copy)]
-pub struct FlatVec {
-    pub present: [u8; 512],
-    pub boxes: [f64; 2048],
+pub struct Slot {
+    pub generation: u32,
+    pub mark: u8, // 0 empty, 1 unmarked, 2 added, 3 updated, from 4 on removed
+    pub payload: NodeId,
+    pub aabb: Aabb2D,
+    pub kept: u8, // 0: no previous box
+    pub prev: Aabb2D,
 }
 
-// The tables of the slots, entry by entry; the free list and the queue of dirty slots with their lengths; and the backend. Marks and flags are numbers: a
-// call takes any index, also one made by hand, and a narrower type would ask more of its caller.
+// The box that the last commits have left of a slot's entry; 0 in `present` stands for none.
+#[derive(Clone, Copy)]
+pub struct Stored {
+    pub present: u8,
+    pub aabb: Aabb2D,
+}
+
+// FlatVec: what the commits have left of each slot.
+#[derive(Clone, Copy)]
+pub struct FlatVec {
+    pub entries: [Stored; 512],
+}
+
+// The slots; the free list and the queue of dirty slots with their lengths; and the backend.
 #[derive(Clone, Copy)]
 pub struct Index {
-    pub generation: [u32; 512],
-    pub mark: [u8; 512], // 0 empty, 1 unmarked, 2 added, 3 updated, from 4 on removed
-    pub payload: [u32; 1024],
-    pub aabb: [f64; 2048],
-    pub kept: [u8; 512], // 0: no previous box
-    pub prev: [f64; 2048],
+    pub entries: [Slot; 512],
     pub used: usize,
     pub free: [u32; 512],
     pub frees: usize,

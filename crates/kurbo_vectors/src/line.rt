@@ -64,7 +64,7 @@ impl<'a> Operands<'a> {
         })
     }
 
-    // Nine words: the kind, the four edges, the four radii. A kind leaves unread what it has not.
+    // Nine words: the kind, the four edges, the four radii. A kind leaves unread what it has not, and is a number here as on the line.
     pub(crate) fn clip(&mut self) -> Result<Clip, Malformed> {
         let kind = self.bits()?;
         let Rect { x0, y0, x1, y1 } = self.rect()?;

@@ -33,6 +33,7 @@ fn answer_at(tree: &Tree, best: Option<u32>) -> Answered
 }
 
 // Inner: of a tap that nothing refuses, so that nothing is tested again.
+#[tactic(auto, using(tree_taps::proofs::candidates::Tap::tappable))]
 pub(crate) fn tapped(tree: &Tree, tap: TapLine) -> Answered
     requires { Ready tree.now tap }
     ensures { result ≡ spec.answered (found tree.now tap) }

@@ -17,6 +17,7 @@ use index_types::NodeId;
 use text_lines::calls::{end, end_line};
 use text_lines::print::Out;
 use text_lines::words::Words;
+use tree_listings::{containing_point, intersect_rect};
 use tree_readings::worlds;
 use tree_state::{Refusal, Tree};
 use tree_types::LocalNode;
@@ -88,8 +89,8 @@ fn request(
     match name {
         b"needs_commit" => needs_commit(out, words, tree),
         b"hit_test_point" => requests::hit_test_point(out, words, tree, ids),
-        b"containing_point" => requests::containing_point(out, words, tree, ids),
-        b"intersect_rect" => requests::intersect_rect(out, words, tree, ids),
+        b"containing_point" => requests::listing(out, words, tree, ids, containing_point),
+        b"intersect_rect" => requests::listing(out, words, tree, ids, intersect_rect),
         b"children_of" => requests::children_of(out, words, tree, ids),
         _ => reading(out, name, words, tree),
     }

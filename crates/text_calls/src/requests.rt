@@ -5,13 +5,12 @@ use crate::read::{Fault, FromWords};
 use crate::show;
 use crate::show::Show;
 use geometry::point::Point;
-use geometry::rect::Rect;
 use index_types::NodeId;
 use std::io::Write;
 use text_lines::calls::end;
 use text_lines::print::Out;
 use text_lines::words::Words;
-use tree_state::Tree;
+use tree_state::{Refusal, Tree};
 use tree_taps::Hit;
 use tree_types::QueryFilter;
 
@@ -51,42 +50,24 @@ pub(crate) fn children_of(
     Ok(())
 }
 
-pub(crate) fn intersect_rect(
+// A listing, of what a point or a rectangle and a filter ask for.
+pub(crate) fn listing<T, F>(
     out: &mut Out,
     words: &mut Words,
     tree: &Tree,
     ids: u32,
-) -> Result<(), Fault> {
-    let rect = Rect::from_words(words)?;
+    list: F,
+) -> Result<(), Fault>
+where
+    T: FromWords,
+    F: FnOnce(&Tree, T, QueryFilter, &mut [u32]) -> Result<usize, Refusal>,
+    requires { F.IsAlwaysCallable list }
+{
+    let asked = T::from_words(words)?;
     let filter = QueryFilter::from_words(words)?;
     end(words)?;
     let mut room = [0; 1024];
-    let count = tree_listings::intersect_rect(
-        tree,
-        rect,
-        filter,
-        &mut room[..2 * lent(ids)],
-    ).map_err(Fault::Refused)?;
-    show::ids(out, &room, count)?;
-    Ok(())
-}
-
-pub(crate) fn containing_point(
-    out: &mut Out,
-    words: &mut Words,
-    tree: &Tree,
-    ids: u32,
-) -> Result<(), Fault> {
-    let point = Point::from_words(words)?;
-    let filter = QueryFilter::from_words(words)?;
-    end(words)?;
-    let mut room = [0; 1024];
-    let count = tree_listings::containing_point(
-        tree,
-        point,
-        filter,
-        &mut room[..2 * lent(ids)],
-    ).map_err(Fault::Refused)?;
+    let count = list(tree, asked, filter, &mut room[..2 * lent(ids)]).map_err(Fault::Refused)?;
     show::ids(out, &room, count)?;
     Ok(())
 }

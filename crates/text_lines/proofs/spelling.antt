@@ -1,3 +1,2 @@
 pub mod Nan
 pub mod Spelt
-pub mod Split

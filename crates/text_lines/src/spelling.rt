@@ -13,21 +13,11 @@ pub fn within(n: usize, s: &[u8]) -> usize
     n.min(s.len())
 }
 
-// Which of `names`, parted by spaces, is `name`: 0 is the first, and their number stands for none.
-pub fn place(names: &[u8], name: &[u8]) -> usize
-    ensures { spec.Place name.now (spec.parted names.now) result }
+// Which of `names`, parted by spaces, is `name`: 0 is the first.
+pub fn place(names: &[u8], name: &[u8]) -> Option<usize>
+    ensures { result ≡ spec.place name.now names.now }
 {
-    let mut k = 0;
-    let mut at = 0;
-    while at < names.len() {
-        let end = byte_search::find(names, at, names.len(), b' ');
-        if name == &names[at..end] {
-            return k;
-        }
-        k += 1;
-        at = end + 1;
-    }
-    k
+    names.split(|b| *b == b' ').position(|part| name == part)
 }
 
 // A hexadecimal digit's value, lowercase.

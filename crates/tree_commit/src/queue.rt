@@ -9,7 +9,7 @@ use index_types::Index;
 // Inner: commits every queued slot of the index in order; its damage is the tree's own, so that no box is collected.
 pub(crate) fn commit_index(index: &mut Index)
     requires { WholeIndex index.old
-        × SoundOf index.old.mark index.old.free index.old.frees index.old.dirty index.old.queued index.old.used }
+        × SoundOf index.old.entries index.old.free index.old.frees index.old.dirty index.old.queued index.old.used }
     ensures { index.new ≡ spec.commit_of index.old (spec.work_of index.old) }
 {
     for at in 0..index.queued {

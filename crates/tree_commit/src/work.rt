@@ -4,7 +4,7 @@ ghost use Rattle.tree_steps.specs.Commit.{commit_tree, rects_in_front};
 ghost use Rattle.tree_verdicts.specs.Held.{Held};
 
 use crate::{queue, room};
-use tree_state::{Marks, Tree};
+use tree_state::{Dirty, Tree};
 use tree_verdicts::need;
 
 // Inner: the commit of a sound tree, with room enough: the pending rectangles, the rework of each position that the marks call for, the index's
@@ -27,11 +27,11 @@ pub fn commit_sound(tree: &mut Tree, room: &mut [f64]) -> usize
     let n = tree_visits::positions(tree, &mut visits);
     let count = tree_rework::rework_all(tree, &visits[..n], room, pending);
     queue::commit_index(&mut tree.index);
-    tree.marks = Marks {
-        marked: [false; 256],
-        transform: [false; 256],
-        clip: [false; 256],
-    };
+    tree.marks = [Dirty {
+        marked: false,
+        transform: false,
+        clip: false,
+    }; 256];
     tree.pending.count = 0;
     count
 }

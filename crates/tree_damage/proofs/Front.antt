@@ -12,7 +12,7 @@ use lib.Seq.{take-suc, take-length, drop-drop}
 use lib.Ieee.{Float}
 use Rattle.std.specs.Prelude.{Ok}
 use Rattle.geometry.specs.declared.rect.Rect.{Rect}
-use Rattle.node_tables.specs.Tables.{of_rect, rect_of, rect_at}
+use Rattle.tree_types.specs.rooms.Rooms.{of_rect, rect_of, rect_at}
 use Rattle.tree_steps.specs.Commit.{rects_of, numbers_of, rects_in_front}
 use Rattle.tree_damage.specs.Damage.{joined, union_rect}
 

@@ -6,7 +6,7 @@ use Prim.Native.Nat.{ℕ, ◌+◌}
 use native.Mathlib.Numerals.{add-one}
 use lib.Ieee.{Float}
 use Rattle.geometry.specs.declared.rect.Rect.{Rect}
-use Rattle.node_tables.specs.Tables.{rect_at}
+use Rattle.tree_types.specs.rooms.Rooms.{rect_at}
 use Rattle.tree_steps.specs.Commit.{rects_of}
 use Rattle.tree_damage.specs.Damage.{with_rect, join_all, joined}
 

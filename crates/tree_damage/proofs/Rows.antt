@@ -8,7 +8,7 @@ use lib.Ieee.{Float, fin, lt, is_nan}
 use Rattle.numbers.specs.Number.{minimum, maximum}
 use Rattle.geometry.specs.declared.rect.Rect.{Rect}
 use Rattle.geometry.specs.Rectangle.{rect, union}
-use Rattle.node_tables.specs.Tables.{of_rect, rect_at}
+use Rattle.tree_types.specs.rooms.Rooms.{of_rect, rect_at}
 use Rattle.tree_steps.specs.Commit.{rects_of}
 use Rattle.tree_state.specs.declared.Refusal.TheVariants as no
 use Rattle.tree_state.specs.Tree.{number_of, number_in}

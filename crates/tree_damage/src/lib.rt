@@ -6,8 +6,8 @@ ghost use Rattle.tree_steps.specs.Commit.{rects_of};
 ghost use Rattle.tree_damage.specs.Damage as spec;
 
 use geometry::rect::Rect;
-use node_tables::rect_in;
 use tree_state::Refusal;
+use tree_types::rooms::rect_in;
 
 // One rectangle more: the first starts the union.
 #[tactic(auto, unfolding(crate::specs::Damage::with_rect))]

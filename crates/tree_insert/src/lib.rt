@@ -42,9 +42,9 @@ pub fn insert_accepted(tree: &mut Tree, parent: Option<NodeId>, local: LocalNode
     slots::take_slot(&mut tree.slots, id);
     link_slot(&mut tree.links, parent, id.0);
     stores::store_local(&mut tree.locals, slot, local);
-    stores::clear_boxes(&mut tree.worlds, slot);
+    stores::clear_boxes(&mut tree.worlds[slot]);
     marks::mark_both(&mut tree.marks, slot);
-    tree.keys.committed[slot] = false; // no key in the index yet
+    tree.keys[slot].committed = false; // no key in the index yet
     id
 }
 

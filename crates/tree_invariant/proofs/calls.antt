@@ -1,7 +1,6 @@
 pub mod Accepted
 pub mod Links
 pub mod Nodes
-pub mod Locals
 pub mod Marks
 pub mod Setters
 pub mod Reparent

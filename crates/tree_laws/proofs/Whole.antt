@@ -13,7 +13,7 @@ sized t w =
       order = w.links.order;
       depth = w.links.depth;
       free = w.slots.free;
-      mark = w.index.mark;
+      entries = w.index.entries;
       entries_free = w.index.free;
       dirty = w.index.dirty;
     }
@@ -24,22 +24,10 @@ whole_fresh =
     record {
       slots = record { generation = refl; free = refl };
       links = record { order = refl; depth = refl };
-      locals = record { bounds = refl; slop = refl; transform = refl; kind = refl; clip = refl; level = refl; flags = refl };
-      worlds = record { transform = refl; clipped = refl; clip = refl; bounds = refl; hit_bounds = refl };
-      marks = record { marked = refl; transform = refl; clip = refl };
-      keys = record { committed = refl; slot = refl; generation = refl };
+      locals = refl;
+      worlds = refl;
+      marks = refl;
+      keys = refl;
       pending = refl;
-      index =
-          record {
-            generation = refl;
-            mark = refl;
-            payload = refl;
-            aabb = refl;
-            kept = refl;
-            prev = refl;
-            free = refl;
-            dirty = refl;
-            present = refl;
-            boxes = refl;
-          };
+      index = record { entries = refl; free = refl; dirty = refl; stored = refl };
     }

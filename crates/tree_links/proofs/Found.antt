@@ -2,7 +2,7 @@
 use Rattle.std.proofs.Common.{◌≡◌, sym, ◌∙◌, Bool, true, false, List, [], ◌∷◌, ◌++◌, map, ℕ, zero, suc, ◌+◌, ◌-◌, ◌*◌, ◌≤◌, ◌<◌, add-one, arith, eqb, length, get_or, take, drop}
 use Rattle.std.proofs.lemmas.List.{map-append, length-map}
 use lib.Seq.{take-suc, take_at, length-take-le, get_or-take, get_or-drop}
-use Rattle.index_types.specs.flat_tables.Tables.{put_id}
+use Rattle.index_types.specs.rooms.Tables.{put_id}
 use Rattle.index_types.proofs.rooms.Rooms.{front_one, front_none}
 use Rattle.link_forest.specs.Table.{at_depth}
 use Rattle.link_table.specs.Links.{between, in_front}

@@ -5,7 +5,7 @@ ghost use Rattle.tree_verdicts.specs.Held.{Asked, Accepted};
 ghost use Rattle.tree_listings.specs.entries.Entries as spec;
 
 use geometry::rect::Rect;
-use index_types::{Aabb2D, flat_tables, rooms};
+use index_types::{Aabb2D, rooms};
 use tree_state::Tree;
 use tree_types::NodeFlags;
 use tree_verdicts::nodes;
@@ -15,7 +15,7 @@ pub fn node_of(tree: &Tree, entry: usize) -> u32
     requires { entry < 512 }
     ensures { result ≡ spec.node_of tree.now entry }
 {
-    flat_tables::id_at(&tree.index.payload, entry).0
+    tree.index.entries[entry].payload.0
 }
 
 // Whether an entry is visited and its node has all asked flags and a world box that meets the rectangle.
@@ -29,8 +29,8 @@ fn takes(tree: &Tree, entry: usize, rect: Aabb2D, asked: NodeFlags) -> bool
         return false;
     }
     let slot = node_of(tree, entry) as usize;
-    let has = NodeFlags(tree.locals.flags[slot]);
-    let world = tree_types::rect_to_aabb(node_tables::rect_at(&tree.worlds.bounds, slot));
+    let has = tree.locals[slot].flags;
+    let world = tree_types::rect_to_aabb(tree.worlds[slot].bounds);
     has.contains(asked) & world.overlaps(rect)
 }
 

@@ -13,7 +13,7 @@ use tree_types::QueryFilter;
 use tree_verdicts::requests;
 
 // The nodes with all asked flags whose hit box and world box meet the rectangle as given, all edges in: how many ids stand in front of the
-// room, two numbers each.
+// room, two numbers each. The room is lent, as there is no heap, and may be longer than what stands in it.
 #[tactic(auto, unfolding(tree_steps::specs::Requests::room_if, tree_state::specs::Tree::value_if))]
 pub fn intersect_rect(
     tree: &Tree,

@@ -36,12 +36,12 @@ pub fn z_index(tree: &Tree, id: NodeId) -> Result<i32, Refusal>
     ensures { result ≡ spec.z_index_call tree.now id }
 {
     nodes::of_node(tree, id)?;
-    Ok(tree.locals.level[id.0 as usize])
+    Ok(tree.locals[id.0 as usize].level)
 }
 
 pub fn flags(tree: &Tree, id: NodeId) -> Result<NodeFlags, Refusal>
     ensures { result ≡ spec.flags_call tree.now id }
 {
     nodes::of_node(tree, id)?;
-    Ok(NodeFlags(tree.locals.flags[id.0 as usize]))
+    Ok(tree.locals[id.0 as usize].flags)
 }

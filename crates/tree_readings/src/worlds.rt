@@ -23,19 +23,19 @@ pub fn world_transform(tree: &Tree, id: NodeId) -> Result<Affine, Refusal>
     ensures { result ≡ spec.world_transform_call tree.now id }
 {
     of_world(tree, id)?;
-    Ok(node_tables::affine_at(&tree.worlds.transform, id.0 as usize))
+    Ok(tree.worlds[id.0 as usize].transform)
 }
 
 pub fn world_bounds(tree: &Tree, id: NodeId) -> Result<Rect, Refusal>
     ensures { result ≡ spec.world_bounds_call tree.now id }
 {
     of_world(tree, id)?;
-    Ok(node_tables::rect_at(&tree.worlds.bounds, id.0 as usize))
+    Ok(tree.worlds[id.0 as usize].bounds)
 }
 
 pub fn world_hit_bounds(tree: &Tree, id: NodeId) -> Result<Rect, Refusal>
     ensures { result ≡ spec.world_hit_bounds_call tree.now id }
 {
     of_world(tree, id)?;
-    Ok(node_tables::rect_at(&tree.worlds.hit_bounds, id.0 as usize))
+    Ok(tree.worlds[id.0 as usize].hit_bounds)
 }

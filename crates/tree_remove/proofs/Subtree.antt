@@ -10,6 +10,7 @@ use Rattle.link_forest.specs.Forest.{Forest, has}
 use Rattle.link_table.specs.Links.{in_front, between, post_order, end_of, cut_tree}
 use Rattle.link_table.specs.declared.Links.{Links}
 use Rattle.link_table.proofs.Steps.{length_part, length_post}
+use Rattle.index_types.specs.declared.Slot.{Slot}
 use Rattle.index_types.specs.declared.Index.{Index}
 use Rattle.index_sound.specs.Sound.{CountOf, Shaped}
 use Rattle.index_sound.proofs.Exact.{counted}
@@ -37,49 +38,49 @@ pub record Ready (t : Tree) (xs : List ℕ) : Type 0 where
   pub low : (y : ℕ) → 1 ≤ times y xs → y < 256
   pub room : t.slots.frees + length xs ≤ 256
   pub pending_room : t.pending.count + count_of (λ y. has_area (stored_bounds t y)) xs ≤ 256
-  pub plain : Plain t.index.mark (gone_keys t xs)
+  pub plain : Plain t.index.entries (gone_keys t xs)
   pub shaped : Shaped t.index
-  pub counts : CountOf t.index.mark t.index.free t.index.frees t.index.dirty t.index.queued t.index.used
+  pub counts : CountOf t.index.entries t.index.free t.index.frees t.index.dirty t.index.queued t.index.used
 
 -- ---- one entry
 
-plain_first : (mark : List ℕ) (k : ℕ) (ks : List ℕ) → Plain mark (k ∷ ks) → Plain mark (k ∷ [])
+plain_first : (entries : List Slot) (k : ℕ) (ks : List ℕ) → Plain entries (k ∷ ks) → Plain entries (k ∷ [])
 unfolding times
-plain_first mark k ks P =
+plain_first entries k ks P =
     record {
       low = λ j h. P.low j (omega arith);
       unmarked = λ j h. P.unmarked j (omega arith);
       once = λ j. omega (arith, P.once j);
     }
 
-module _ (ix : Index) (S : Shaped ix) (C : CountOf ix.mark ix.free ix.frees ix.dirty ix.queued ix.used) (k : ℕ) (ks : List ℕ) where
-  entry_room : (b : Bool) → Plain ix.mark (numbers (entry_if b k) ++ ks) → b ≡ true → Removes ix k
+module _ (ix : Index) (S : Shaped ix) (C : CountOf ix.entries ix.free ix.frees ix.dirty ix.queued ix.used) (k : ℕ) (ks : List ℕ) where
+  entry_room : (b : Bool) → Plain ix.entries (numbers (entry_if b k) ++ ks) → b ≡ true → Removes ix k
   entry_room true P h =
-      let u = first_unmarked ix.mark k ks P in
-      fits.removes ix S C k (first_low_lem ix.mark k ks P) (λ z. omega (arith, u, z))
+      let u = first_unmarked ix.entries k ks P in
+      fits.removes ix S C k (first_low_lem ix.entries k ks P) (λ z. omega (arith, u, z))
   entry_room false P h = let z : ◌≡◌ {A = ℕ} 0 1 = cc in absurd (omega arith)
 
-  plain_left : (b : Bool) → Plain ix.mark (numbers (entry_if b k) ++ ks) → Plain (remove_entry b ix k).mark ks
-  plain_left true P = subst (λ (r : Index). Plain r.mark ks) (sym (remove_one ix k (first_unmarked ix.mark k ks P))) (plain_next ix.mark k ks P)
+  plain_left : (b : Bool) → Plain ix.entries (numbers (entry_if b k) ++ ks) → Plain (remove_entry b ix k).entries ks
+  plain_left true P = subst (λ (r : Index). Plain r.entries ks) (sym (remove_one ix k (first_unmarked ix.entries k ks P))) (plain_next ix.entries k ks P)
   plain_left false P = P
 
-  shaped_left : (b : Bool) → Plain ix.mark (numbers (entry_if b k) ++ ks) → Shaped (remove_entry b ix k)
+  shaped_left : (b : Bool) → Plain ix.entries (numbers (entry_if b k) ++ ks) → Shaped (remove_entry b ix k)
   shaped_left true P =
-      rw (remove_one ix k (first_unmarked ix.mark k ks P))
-      (record { mark_whole = length-set ix.mark k 4 ∙ S.mark_whole; free_whole = S.free_whole; dirty_whole = queue_length ix.dirty ix.queued (k ∷ []) ∙ S.dirty_whole })
+      rw (remove_one ix k (first_unmarked ix.entries k ks P))
+      (record { entries_whole = length-set ix.entries k _ ∙ S.entries_whole; free_whole = S.free_whole; dirty_whole = queue_length ix.dirty ix.queued (k ∷ []) ∙ S.dirty_whole })
   shaped_left false P = S
 
-  counts_left : (b : Bool) → Plain ix.mark (numbers (entry_if b k) ++ ks)
-      → let r = remove_entry b ix k in CountOf r.mark r.free r.frees r.dirty r.queued r.used
+  counts_left : (b : Bool) → Plain ix.entries (numbers (entry_if b k) ++ ks)
+      → let r = remove_entry b ix k in CountOf r.entries r.free r.frees r.dirty r.queued r.used
   counts_left true P =
-      subst (λ (r : Index). CountOf r.mark r.free r.frees r.dirty r.queued r.used) (sym (remove_one ix k (first_unmarked ix.mark k ks P)))
-      (keep_keys ix.free ix.frees ix.used S.free_whole ix.mark ix.dirty ix.queued (k ∷ []) S.mark_whole S.dirty_whole (plain_first ix.mark k ks P) C)
+      subst (λ (r : Index). CountOf r.entries r.free r.frees r.dirty r.queued r.used) (sym (remove_one ix k (first_unmarked ix.entries k ks P)))
+      (keep_keys ix.free ix.frees ix.used S.free_whole ix.entries ix.dirty ix.queued (k ∷ []) S.entries_whole S.dirty_whole (plain_first ix.entries k ks P) C)
   counts_left false P = C
 
 -- ---- the next node
 
 module _ (t : Tree) (x : ℕ) (xs : List ℕ) (R : Ready t (x ∷ xs)) where
-  plain_here : Plain t.index.mark (numbers (entry_if (committed_at t x) (key_at t x).0) ++ gone_keys t xs)
+  plain_here : Plain t.index.entries (numbers (entry_if (committed_at t x) (key_at t x).0) ++ gone_keys t xs)
   unfolding joined
   plain_here = R.plain
 
@@ -123,10 +124,10 @@ module _ (t : Tree) (w : Whole t) (S : SoundTree t) (f : Forest) (L : Linked t f
       (record {
         low = λ y n. low t f L y (keep.gone_has t w S f L x h y n);
         room = keep.room t w S f L x h;
-        pending_room = omega (arith, pending_count t.worlds.bounds t.pending (keep.gone t w S f L x h), (keep.sound_after t w S f L x h).pending_fits);
+        pending_room = omega (arith, pending_count (stored_bounds t) t.pending (keep.gone t w S f L x h), (keep.sound_after t w S f L x h).pending_fits);
         plain = keep.plain t w S f L x h;
-        shaped = record { mark_whole = w.index.mark; free_whole = w.index.free; dirty_whole = w.index.dirty };
-        counts = counted t.index.mark t.index.free t.index.frees t.index.dirty t.index.queued t.index.used w.index.mark w.index.free w.index.dirty S.index;
+        shaped = record { entries_whole = w.index.entries; free_whole = w.index.free; dirty_whole = w.index.dirty };
+        counts = counted t.index.entries t.index.free t.index.frees t.index.dirty t.index.queued t.index.used w.index.entries w.index.free w.index.dirty S.index;
       })
 
 -- ---- the call: the slots that go stand in front of the room

@@ -10,7 +10,7 @@ ghost use Rattle.tree_remove.specs.Remove as spec;
 
 use geometry::rect::Rect;
 use index_types::{Index, NodeId};
-use tree_state::{Pending, Refusal, Slots, Tree};
+use tree_state::{IndexKey, Pending, Refusal, Slots, Tree};
 
 pub fn remove(tree: &mut Tree, id: NodeId) -> Result<(), Refusal>
     ensures answer { result ≡ (step.remove_call tree.old id).answer }
@@ -42,9 +42,8 @@ fn remove_node(tree: &mut Tree, slot: u32)
     ensures { tree.new ≡ step.remove_node tree.old slot }
 {
     let at = slot as usize;
-    let rect = node_tables::rect_at(&tree.worlds.bounds, at);
-    push_rect(&mut tree.pending, rect);
-    remove_entry(&mut tree.index, tree.keys.committed[at], tree.keys.slot[at]);
+    push_rect(&mut tree.pending, tree.worlds[at].bounds);
+    remove_entry(&mut tree.index, tree.keys[at]);
     free_slot(&mut tree.slots, slot);
 }
 
@@ -54,18 +53,18 @@ fn push_rect(pending: &mut Pending, rect: Rect)
     ensures { pending.new ≡ step.push_rect (has_area rect) pending.old rect }
 {
     if rect.has_area() {
-        node_tables::put_rect(&mut pending.rects, pending.count, rect);
+        pending.rects[pending.count] = rect;
         pending.count += 1;
     }
 }
 
 // The entry of a committed node goes.
-fn remove_entry(index: &mut Index, committed: bool, slot: u32)
-    requires { committed ≡ true → Removes index.old slot }
-    ensures { index.new ≡ step.remove_entry committed index.old slot }
+fn remove_entry(index: &mut Index, own: IndexKey)
+    requires { own.committed ≡ true → Removes index.old own.key.0 }
+    ensures { index.new ≡ step.remove_entry own.committed index.old own.key.0 }
 {
-    if committed {
-        index_entries::remove_entry(index, slot);
+    if own.committed {
+        index_entries::remove_entry(index, own.key.0);
     }
 }
 

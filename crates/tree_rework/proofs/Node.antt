@@ -46,7 +46,7 @@ module _ {t : Tree} {ds : List Rect} {i : ℕ} (F : Fits (from t ds) i) where
               takes = record { used_fits = F.used_fits; frees_fit = F.frees_fit; slot_fits = F.slot_fits new };
               queues = record { low = F.slot_fits new; queue_fits = F.queue_fits; queue_room = F.slot_queued new };
             };
-        queues = λ held. record { low = (live_slot t.index.generation t.index.mark (key_at t (slot_at t i)) (F.key_lives held)).0; queue_fits = F.queue_fits; queue_room = F.key_queued held };
+        queues = λ held. record { low = (live_slot t.index (key_at t (slot_at t i)) (F.key_lives held)).0; queue_fits = F.queue_fits; queue_room = F.key_queued held };
       }
 
 -- ---- what they leave in the room

@@ -10,10 +10,8 @@ use lib.Seq.{sets-eq, take_at, drop_at, drop-drop}
 use lib.Ieee.{Float}
 use Rattle.geometry.specs.declared.rect.Rect.{Rect}
 use Rattle.geometry.specs.Rectangle.{has_area}
-use Rattle.index_types.specs.Boxes.{aabb}
-use Rattle.index_types.specs.flat_tables.Tables.{put_box}
-use Rattle.node_tables.specs.Tables.{of_rect, put_rect}
-use Rattle.node_tables.proofs.Laws.{rect_length}
+use Rattle.tree_types.specs.rooms.Rooms.{of_rect, put_rect}
+use Rattle.tree_types.proofs.rooms.Laws.{rect_length}
 use Rattle.tree_steps.specs.Commit.{if_area, numbers_of, rects_in_front}
 use Rattle.tree_rework.specs.Damage.{laid}
 
@@ -39,11 +37,6 @@ area_yes r h = rw h
 pub area_no : (r : Rect) → has_area r ≡ false → if_area r ≡ []
 area_no r h = rw h
 
--- its four numbers, as a box
-pub boxed : (room : List Float) (n : ℕ) (r : Rect) → put_box room n (aabb r.x0 r.y0 r.x1 r.y1) ≡ put_rect room n r
-unfolding put_box put_rect
-boxed room n r = refl
-
 pub laid_two : (room : List Float) (n m : ℕ) (rs ss : List Rect) → m ≡ n + length rs → laid (laid room n rs) m ss ≡ laid room n (rs ++ ss)
 laid_two room n m rs ss e = rw e (laid_append room n rs ss)
 
@@ -62,7 +55,8 @@ unfolding rects_in_front
 front_length rs room =
     rw (length-append (numbers_of rs) (drop (length (numbers_of rs)) room), length-drop (length (numbers_of rs)) room, numbers_length rs)
 
-front_one : (rs : List Rect) (room : List Float) (r : Rect) → 4 * length rs + 4 ≤ length room
+-- one rectangle more
+pub front_one : (rs : List Rect) (room : List Float) (r : Rect) → 4 * length rs + 4 ≤ length room
     → put_rect (rects_in_front rs room) (length rs) r ≡ rects_in_front (rs ++ (r ∷ [])) room
 unfolding put_rect rects_in_front
 front_one rs room r h =

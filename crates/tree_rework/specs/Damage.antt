@@ -1,7 +1,7 @@
 -- Damage in lent room.
 use Rattle.std.specs.Prelude.{ℕ, ◌+◌, List, [], ◌∷◌, Float}
 use Rattle.geometry.specs.declared.rect.Rect.{Rect}
-use Rattle.node_tables.specs.Tables.{put_rect}
+use Rattle.tree_types.specs.rooms.Rooms.{put_rect}
 
 -- rectangles one after the other, the first at the position n
 unfoldable pub laid : List Float → ℕ → List Rect → List Float

@@ -4,11 +4,10 @@ ghost use Rattle.tree_steps.specs.Commit.{if_area, damage_of};
 ghost use Rattle.tree_rework.specs.Damage as spec;
 
 use geometry::rect::Rect;
-use index_types::Aabb2D;
-use index_types::flat_tables::put_box_in;
+use tree_types::rooms;
 
 // Puts a rectangle behind the n that stand in the room, if it has area. How many stand there then is returned.
-#[tactic(auto, using(crate::proofs::Rooms::area_yes, crate::proofs::Rooms::area_no, crate::proofs::Rooms::boxed), unfolding(crate::specs::Damage::laid))]
+#[tactic(auto, using(crate::proofs::Rooms::area_yes, crate::proofs::Rooms::area_no), unfolding(crate::specs::Damage::laid))]
 fn push_area(room: &mut [f64], n: usize, r: Rect) -> usize
     requires { (n + length (if_area r) ≤ 512) × (2048 ≤ length room.old) }
     ensures { (room.new ≡ spec.laid room.old n (if_area r)) × (result ≡ n + length (if_area r)) }
@@ -16,7 +15,7 @@ fn push_area(room: &mut [f64], n: usize, r: Rect) -> usize
     if !r.has_area() {
         return n;
     }
-    put_box_in(room, n, Aabb2D::new(r.x0, r.y0, r.x1, r.y1));
+    rooms::put_rect_in(room, n, r);
     n + 1
 }
 

@@ -4,7 +4,7 @@
 pub mod boxes; // the damage of a changed box
 pub mod entries; // the entry in the index
 pub mod preconditions; // what a turn needs
-pub mod worlds; // world transform and clip, and the world record
+pub mod worlds; // the world transform and clip
 
 ghost use Rattle.std.specs.Prelude.{◌≡◌, List, ◌≤◌, length, Float};
 ghost use Rattle.geometry.specs.declared.rect.Rect.{Rect};
@@ -26,16 +26,14 @@ fn rework_node(tree: &mut Tree, room: &mut [f64], count: usize, at: usize) -> us
 {
     let x = tree.links.order[at] as usize;
     let placed = worlds::place_node(tree, at, x);
-    let own = node_tables::rect_at(&tree.locals.bounds, x);
-    let slop = node_tables::insets_at(&tree.locals.slop, x);
-    let bounds = tree_worlds::world_bounds(placed, own);
-    let hit = tree_worlds::world_hit_bounds(placed, own, slop);
-    let old = node_tables::rect_at(&tree.worlds.bounds, x);
-    let old_hit = node_tables::rect_at(&tree.worlds.hit_bounds, x);
-    let same = old_hit == hit;
+    let local = tree.locals[x];
+    let bounds = tree_worlds::world_bounds(placed, local.bounds);
+    let hit = tree_worlds::world_hit_bounds(placed, local.bounds, local.slop);
+    let old = tree.worlds[x].bounds;
+    let same = tree.worlds[x].hit_bounds == hit;
     let longer = boxes::push_damage(room, count, old, bounds);
     entries::enter_node(tree, x, tree_types::rect_to_aabb(hit), same);
-    worlds::store_world(&mut tree.worlds, x, placed, bounds, hit);
+    tree.worlds[x].store(placed, bounds, hit);
     longer
 }
 

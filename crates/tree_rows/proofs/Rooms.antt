@@ -3,11 +3,10 @@ use Rattle.std.specs.Prelude.{Ok, Err, None, Some}
 use Prim.Native.Nat.{ℕ}
 use mathlib.Core.Path.{◌≡◌, refl}
 use mathlib.Core.List.{List, [], ◌∷◌}
-use lib.ListN.{replicate}
+use lib.ListN.{replicate, set}
 use lib.Ieee.{Float}
 use Rattle.geometry.specs.Rectangle.{rect}
 use Rattle.index_types.specs.Boxes.{aabb}
-use Rattle.index_types.specs.flat_tables.Tables.{id_at}
 use Rattle.counting.specs.Times.{times, every}
 use Rattle.counting.specs.Lists.{once_below}
 use Rattle.counting.specs.Conditions.{lowest, left_if}
@@ -15,7 +14,7 @@ use Rattle.link_forest.specs.Table.{at_depth}
 use Rattle.index_sound.specs.Sound.{sound_of}
 use Rattle.index_commit.specs.Commit as damage
 use Rattle.index_query.specs.Query as query
-use Rattle.index_state.specs.Index.{fresh_index}
+use Rattle.index_state.specs.Index.{fresh_entry, fresh_index}
 use Rattle.index_state.specs.Calls.{query_room}
 use Rattle.plan.proofs.Rows.{num, id, ten, a, b}
 use Rattle.tree_state.specs.declared.Tree.{Tree}
@@ -54,10 +53,10 @@ unfolding damage.boxes_in_front damage.flat floats
 boxes = (refl, refl)
 
 pub entries : (query.entries_in_front [] room ≡ room)
-    × (query.entries_in_front (query.entries (1 ∷ 2 ∷ []) (10 ∷ 11 ∷ 12 ∷ 13 ∷ []) (1 ∷ [])) room ≡ 1 ∷ 2 ∷ 12 ∷ 13 ∷ 9 ∷ [])
+    × (query.entries_in_front (query.entries (record fresh_index { entries = set fresh_index.entries 1 (record fresh_entry { generation = 2; payload = record { 0 = 12; 1 = 13 } }) }) (1 ∷ [])) room ≡ 1 ∷ 2 ∷ 12 ∷ 13 ∷ 9 ∷ [])
     × (query_room fresh_index (0 ∷ []) room ≡ room)  -- refused: room for fewer than 512 entries
     × (query_room fresh_index (0 ∷ []) (replicate 2049 7) ≡ 0 ∷ 0 ∷ 0 ∷ 0 ∷ replicate 2045 7)
-unfolding query.entries id_at room query_room lowest left_if fresh_index sound_of once_below every times
+unfolding query.entries room query_room lowest left_if fresh_index sound_of once_below every times
 entries = (refl, refl, refl, refl)
 
 -- children: a node with one child

@@ -8,25 +8,25 @@ use Rattle.geometry.specs.Rectangle.{has_area}
 use Rattle.geometry.specs.Transform.{identity}
 use Rattle.geometry_clips.specs.constructed.Constructed.{as_constructed}
 use Rattle.index_types.specs.Boxes.{aabb_eq}
-use Rattle.index_types.specs.flat_tables.Tables.{box_at, put_box, id_at, put_id}
 use Rattle.counting.specs.Times.{times, every}
 use Rattle.counting.specs.Lists.{once_below}
 use Rattle.index_sound.specs.Sound.{sound_of}
-use Rattle.index_entries.specs.Entries.{next_generation, queue_with, length_with, mark_of, previous_at, slot_for, used_for, generation_for}
+use Rattle.index_entries.specs.Entries.{next_generation, queue_with, length_with, mark_of, previous_box, slot_for, used_for, generation_for}
 use Rattle.index_commit.specs.Commit.{act_of, box_before, moved_from, moved_to, work_step, work}
 use Rattle.index_query.specs.Query as query
 use Rattle.index_state.specs.Index.{fresh_index, work_of, rect_slots, point_slots}
 use Rattle.tree_types.specs.Local.{flags}
-use Rattle.node_tables.specs.Tables.{rect_at, put_rect, insets_at, put_insets, affine_at, put_affine, clip_at, kind_of, edges_from, put_clip, clip_rect_at, is_there, put_clip_rect}
+use Rattle.tree_types.specs.rooms.Rooms.{rect_at}
 use Rattle.link_forest.specs.Table.{less_deep, run_length, seg_end, index_of, post_of, depths_from}
 use Rattle.link_table.specs.Links.{after_cut, splice, add_root, add_last, cut_tree, graft, graft_last, move_last, move_root}
 use Rattle.tree_state.specs.declared.Tree.{Tree}
+use Rattle.tree_state.specs.Locals.{clip_by, kind_of, edges_from}
 use Rattle.tree_state.specs.Tree.{number_of, number_in, fresh_tree, live, local_at, some, any_of, needs_commit}
 use Rattle.tree_state.specs.Sound.{count_of, count_below, every_of, slots_right, node_right, entry_right, counts_right, sound_tree}
 use Rattle.tree_steps.specs.Setters.{set_transform, set_clip, set_bounds, set_slop, set_level, set_flags}
 use Rattle.tree_steps.specs.Structure.{insert_tree, remove_all, remove_tree, reparent_tree}
 use Rattle.tree_steps.specs.SlotOrder.{put_in, slots_below}
-use Rattle.tree_steps.specs.Commit.{ancestors, positions_from, walk_all, handed_down, rework, rework_all, rects_of, commit_tree}
+use Rattle.tree_steps.specs.Commit.{ancestors, positions_from, walk_all, handed_down, rework, rework_all, commit_tree}
 use Rattle.tree_steps.specs.Requests.{ids_in_front, room_if, keep_of, in_stored_clips, fine, stronger, strongest, hit_node, path_to, rect_nodes, point_nodes}
 use Rattle.tree_insert.specs.Insert.{insert_call}
 use Rattle.tree_commit.specs.Commit.{after_work, commit_call}
@@ -56,12 +56,12 @@ refusals cs = map (λ (o : Outcome). o.refused) (demand.outcomes step outcome fr
 -- what the rows compute through
 unfoldable pub computed : Unit {0}
 unfolding plan.computed after listing tap_at refusals places half_clip hidden step reading_number outcome answer insert_told ids_of listing_told tap_told same has_area as_constructed aabb_eq
-    box_at put_box id_at put_id times every once_below sound_of next_generation queue_with length_with mark_of previous_at slot_for used_for generation_for act_of
-    box_before moved_from moved_to work_step work query.slots fresh_index work_of rect_slots point_slots rect_at put_rect insets_at put_insets affine_at put_affine
-    clip_at kind_of edges_from put_clip clip_rect_at is_there put_clip_rect run_length seg_end index_of post_of depths_from after_cut splice add_root add_last cut_tree
+    times every once_below sound_of next_generation queue_with length_with mark_of previous_box slot_for used_for generation_for act_of
+    box_before moved_from moved_to work_step work query.slots fresh_index work_of rect_slots point_slots rect_at
+    clip_by kind_of edges_from run_length seg_end index_of post_of depths_from after_cut splice add_root add_last cut_tree
     graft graft_last move_last move_root number_of fresh_tree live local_at some any_of needs_commit count_of count_below every_of slots_right
     node_right entry_right counts_right sound_tree set_transform set_clip set_bounds set_slop set_level set_flags insert_tree remove_all remove_tree reparent_tree
-    less_deep ancestors put_in slots_below positions_from walk_all handed_down rework rework_all rects_of commit_tree keep_of in_stored_clips fine stronger
+    less_deep ancestors put_in slots_below positions_from walk_all handed_down rework rework_all commit_tree keep_of in_stored_clips fine stronger
     strongest hit_node path_to rect_nodes point_nodes demand.outcomes insert_call commit_call after_work number_in room_if ids_in_front
 computed = tt
 

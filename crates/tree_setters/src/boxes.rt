@@ -16,12 +16,12 @@ pub fn set_local_bounds(tree: &mut Tree, id: NodeId, bounds: Rect) -> Result<(),
     nodes::of_node(tree, id)?;
     check(bounds.is_finite(), Refusal::NotFinite)?;
     let slot = id.0 as usize;
-    let stored = node_tables::rect_at(&tree.locals.bounds, slot);
+    let stored = tree.locals[slot].bounds;
     if stored == bounds {
         return Ok(());
     }
-    node_tables::put_rect(&mut tree.locals.bounds, slot, bounds);
-    tree.marks.marked[slot] = true; // alone: no place of a node changes
+    tree.locals[slot].bounds = bounds;
+    tree.marks[slot].marked = true; // alone: no place of a node changes
     Ok(())
 }
 
@@ -33,11 +33,11 @@ pub fn set_hit_slop(tree: &mut Tree, id: NodeId, slop: Insets) -> Result<(), Ref
     nodes::of_node(tree, id)?;
     check(slop.is_finite(), Refusal::NotFinite)?;
     let slot = id.0 as usize;
-    let stored = node_tables::insets_at(&tree.locals.slop, slot);
+    let stored = tree.locals[slot].slop;
     if stored == slop {
         return Ok(());
     }
-    node_tables::put_insets(&mut tree.locals.slop, slot, slop);
-    tree.marks.marked[slot] = true; // alone, as for the bounds
+    tree.locals[slot].slop = slop;
+    tree.marks[slot].marked = true; // alone, as for the bounds
     Ok(())
 }

@@ -4,7 +4,7 @@ ghost use Rattle.tree_steps.specs.Setters as spec;
 
 use geometry_clips::clip::Clip;
 use index_types::NodeId;
-use tree_state::{Refusal, Tree, check};
+use tree_state::{Dirty, Refusal, Tree, check};
 use tree_verdicts::nodes;
 
 // The clip is put through the constructor before it is compared.
@@ -17,13 +17,15 @@ pub fn set_local_clip(tree: &mut Tree, id: NodeId, clip: Clip) -> Result<(), Ref
     check(clip.is_finite(), Refusal::NotFinite)?;
     let slot = id.0 as usize;
     let made = clip.construct();
-    let stored = node_tables::clip_at(tree.locals.kind[slot], &tree.locals.clip, slot);
+    let stored = tree.locals[slot].to_clip();
     if stored == made {
         return Ok(());
     }
-    tree.locals.kind[slot] = node_tables::clip_kind(made);
-    node_tables::put_clip(&mut tree.locals.clip, slot, made);
-    tree.marks.marked[slot] = true;
-    tree.marks.clip[slot] = true;
+    tree.locals[slot].put_clip(made);
+    tree.marks[slot] = Dirty {
+        marked: true,
+        clip: true,
+        ..tree.marks[slot]
+    };
     Ok(())
 }

@@ -13,7 +13,7 @@ pub fn set_z_index(tree: &mut Tree, id: NodeId, z_index: i32) -> Result<(), Refu
     ensures tree { tree.new ≡ (spec.level_call tree.old id z_index).tree }
 {
     nodes::of_node(tree, id)?;
-    tree.locals.level[id.0 as usize] = z_index;
+    tree.locals[id.0 as usize].level = z_index;
     Ok(())
 }
 
@@ -24,6 +24,6 @@ pub fn set_flags(tree: &mut Tree, id: NodeId, flags: NodeFlags) -> Result<(), Re
 {
     nodes::of_node(tree, id)?;
     check(flags.is_known(), Refusal::UnknownFlags)?;
-    tree.locals.flags[id.0 as usize] = flags.0;
+    tree.locals[id.0 as usize].flags = flags;
     Ok(())
 }

@@ -4,7 +4,7 @@ ghost use Rattle.tree_steps.specs.Setters as spec;
 
 use geometry::affine::Affine;
 use index_types::NodeId;
-use tree_state::{Refusal, Tree, check};
+use tree_state::{Dirty, Refusal, Tree, check};
 use tree_verdicts::nodes;
 
 #[tactic(auto, unfolding(geometry::specs::Transform::affine_eq, tree_steps::specs::Setters::set_transform))]
@@ -15,12 +15,15 @@ pub fn set_local_transform(tree: &mut Tree, id: NodeId, transform: Affine) -> Re
     nodes::of_node(tree, id)?;
     check(transform.is_finite(), Refusal::NotFinite)?;
     let slot = id.0 as usize;
-    let stored = node_tables::affine_at(&tree.locals.transform, slot);
+    let stored = tree.locals[slot].transform;
     if stored == transform {
         return Ok(());
     }
-    node_tables::put_affine(&mut tree.locals.transform, slot, transform);
-    tree.marks.marked[slot] = true;
-    tree.marks.transform[slot] = true;
+    tree.locals[slot].transform = transform;
+    tree.marks[slot] = Dirty {
+        marked: true,
+        transform: true,
+        ..tree.marks[slot]
+    };
     Ok(())
 }

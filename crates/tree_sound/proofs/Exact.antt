@@ -7,7 +7,8 @@ use native.Mathlib.Omega.{arith}
 use native.Mathlib.Decide.{dec_lt, ℕ_discrete}
 use borrow.Author.Tests.{eq-eqb, ne_eqb, lt-ltb, le-ltb, ltb-true}
 use lib.Dec.{eqb, ltb, leb}
-use lib.ListN.{length, get_or, take, length-take}
+use lib.ListN.{length, take, length-take}
+use Rattle.index_types.specs.Slots.{entry}
 use Rattle.counting.specs.Times.{tally, times, every}
 use Rattle.counting.specs.Lists.{Tells, once_below}
 use Rattle.counting.proofs.Counting.{hit, miss}
@@ -23,7 +24,6 @@ use Rattle.geometry_clips.specs.Clips.{constructed}
 use Rattle.geometry_clips.proofs.constructed.Constructed.{as_constructed_lem}
 use Rattle.index_types.specs.declared.NodeId.{NodeId}
 use Rattle.tree_types.specs.Local.{finite_local, known, empty_rect}
-use Rattle.index_types.specs.flat_tables.Tables.{id_at}
 use Rattle.tree_state.specs.declared.Tree.{Tree}
 use Rattle.tree_state.specs.Tree as tree
 use Rattle.tree_state.specs.Tree.{live_slots, is_live, local_at, clip_of, marked_at, transform_changed_at, clip_changed_at, committed_at, key_at, stored_bounds, stored_hit_bounds, entry_mark, is_removed}
@@ -149,8 +149,8 @@ module _ (t : Tree) where
       (λ O. (O.is_entry, (O.unmarked, (O.under_key, O.carries))))
       (both (ltb k 512) _ (less k 512)
       (both (eqb (entry_mark t k) 1) _ (equal (entry_mark t k) 1)
-      (both (eqb (get_or t.index.generation k 0) (key_at t x).1) _ (equal (get_or t.index.generation k 0) (key_at t x).1)
-      (same_id_lem (id_at t.index.payload k) (tree.id_at t x)))))
+      (both (eqb (entry t.index k).generation (key_at t x).1) _ (equal (entry t.index k).generation (key_at t x).1)
+      (same_id_lem (entry t.index k).payload (tree.id_at t x)))))
 
   new_tells : (x : ℕ) → Tells (new_right t x) (Uncommitted t x)
   new_tells x =
@@ -212,7 +212,7 @@ module _ (t : Tree) (s : Sized t) where
   Parts =
       SlotsOf t.links.order t.links.count t.slots.free t.slots.frees t.slots.used
       × (Table
-      × (SoundOf t.index.mark t.index.free t.index.frees t.index.dirty t.index.queued t.index.used
+      × (SoundOf t.index.entries t.index.free t.index.frees t.index.dirty t.index.queued t.index.used
       × (((x : ℕ) → 1 ≤ times x (live_slots t) → NodeOf t x)
       × (((k : ℕ) → k < 512 → EntryOf t k) × ((t.pending.count ≤ removed_entries t) × (removed_entries t + committed_nodes t ≤ 256))))))
 
@@ -299,8 +299,8 @@ module _ (t : Tree) (s : Sized t) where
       (both (slots_right L.order L.count t.slots.free t.slots.frees t.slots.used) _
       (slots_tells L.order L.count t.slots.free t.slots.frees t.slots.used s.order s.free)
       (both (depths_from 0 (take L.count L.depth)) _ (shape_exact (live_slots t) (take L.count L.depth) len)
-      (both (sound_of X.mark X.free X.frees X.dirty X.queued X.used) _
-      (index.decides X.mark X.free X.frees X.dirty X.queued X.used s.mark s.entries_free s.dirty)
+      (both (sound_of X.entries X.free X.frees X.dirty X.queued X.used) _
+      (index.decides X.entries X.free X.frees X.dirty X.queued X.used s.entries s.entries_free s.dirty)
       (both (every_of (node_right t) (live_slots t)) _ (every_of_tells (node_right t) (NodeOf t) (node_tells t) (live_slots t))
       (both (every 512 (entry_right t)) _ (every_tells 512 (entry_right t) (EntryOf t) (entry_tells t)) (counts_tells t))))))
 

@@ -29,7 +29,7 @@ unfolding every_of
 every_listed p [] = refl
 every_listed p (x ∷ l) = ap (λ b. p x && b) (every_listed p l)
 
-counted : (b : Bool) (x : ℕ) (l : List ℕ) → length (cond b (x ∷ l) l) ≡ tally b + length l
+counted : {A : Type 0} (b : Bool) (x : A) (l : List A) → length (cond b (x ∷ l) l) ≡ tally b + length l
 counted true x l = omega arith
 counted false x l = omega arith
 
@@ -42,14 +42,14 @@ unfolding count_of
 count_listed p [] = refl
 count_listed p (x ∷ l) = rw (counted (p x) x (filter p l), count_listed p l)
 
-pub filter_small : (p : ℕ → Bool) (l : List ℕ) → length (filter p l) ≤ length l
+pub filter_small : {A : Type 0} (p : A → Bool) (l : List A) → length (filter p l) ≤ length l
 filter_small p [] = omega arith
 filter_small p (x ∷ l) = rw (counted (p x) x (filter p l)) (omega (arith, filter_small p l, tally_small (p x)))
 
-pub count_used : (p : ℕ → Bool) (l : List ℕ) (n : ℕ) → n ≤ length l → length (filter p (take n l)) ≡ count_below n (λ k. p (get_or l k 0))
+pub count_used : {A : Type 0} (d : A) (p : A → Bool) (l : List A) (n : ℕ) → n ≤ length l → length (filter p (take n l)) ≡ count_below n (λ k. p (get_or l k d))
 unfolding count_below
-count_used p l zero h = refl
-count_used p l (suc n) h = rw (← add-one n, length-filter_more p l n 0 (omega arith), count_used p l n (omega arith), as_number (p (get_or l n 0)))
+count_used d p l zero h = refl
+count_used d p l (suc n) h = rw (← add-one n, length-filter_more p l n d (omega arith), count_used d p l n (omega arith), as_number (p (get_or l n d)))
 
 -- ---- found in a list, by counting
 

@@ -7,6 +7,8 @@ use native.Mathlib.Decide.{dec_lt}
 use lib.ListN.{length, take}
 use Rattle.std.specs.List.{filter}
 use Rattle.counting.specs.Times.{every}
+use Rattle.index_types.specs.declared.Slot.{Slot}
+use Rattle.index_types.specs.Slots.{no_entry}
 use Rattle.index_sound.specs.Sound.{SoundOf, sound_index}
 use Rattle.index_sound.proofs.Exact.{decides}
 use Rattle.tree_state.specs.declared.Tree.{Tree}
@@ -40,11 +42,14 @@ module _ (p : ℕ → Bool) (u : ℕ) where
         | no g ↦ below_used n (omega arith) f ∙ (rw (f n (omega arith)) (omega arith))
       ]
 
+abbrev pub removed_slot : Slot → Bool
+removed_slot e = is_removed e.mark
+
 module _ (t : Tree) (w : Whole t) (sound : sound_index t.index ≡ true) where
-  index_holds : SoundOf t.index.mark t.index.free t.index.frees t.index.dirty t.index.queued t.index.used
+  index_holds : SoundOf t.index.entries t.index.free t.index.frees t.index.dirty t.index.queued t.index.used
   index_holds =
       let ix = t.index in
-      (decides ix.mark ix.free ix.frees ix.dirty ix.queued ix.used w.index.mark w.index.free w.index.dirty).0 sound
+      (decides ix.entries ix.free ix.frees ix.dirty ix.queued ix.used w.index.entries w.index.free w.index.dirty).0 sound
 
   pub used_fits : t.index.used ≤ 512
   used_fits = index_holds.used_fits
@@ -53,8 +58,8 @@ module _ (t : Tree) (w : Whole t) (sound : sound_index t.index ≡ true) where
   unfolding entry_right
   entries_used = every_used (entry_right t) t.index.used 512 used_fits (λ k h. rw (index_holds.beyond k h))
 
-  pub removed_used : length (filter is_removed (take t.index.used t.index.mark)) ≡ removed_entries t
+  pub removed_used : length (filter removed_slot (take t.index.used t.index.entries)) ≡ removed_entries t
   removed_used =
       let n = t.index.used in
-      let fits : n ≤ length t.index.mark = omega (arith, used_fits, w.index.mark) in
-      count_used is_removed t.index.mark n fits ∙ below_used (λ k. is_removed (entry_mark t k)) n 512 used_fits (λ k h. rw (index_holds.beyond k h))
+      let fits : n ≤ length t.index.entries = omega (arith, used_fits, w.index.entries) in
+      count_used no_entry removed_slot t.index.entries n fits ∙ below_used (λ k. is_removed (entry_mark t k)) n 512 used_fits (λ k h. rw (index_holds.beyond k h))

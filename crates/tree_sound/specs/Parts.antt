@@ -14,7 +14,7 @@ pub record Sized (t : Tree) : Type 0 where
   pub order : length t.links.order ≡ 256
   pub depth : length t.links.depth ≡ 256
   pub free : length t.slots.free ≡ 256
-  pub mark : length t.index.mark ≡ 512
+  pub entries : length t.index.entries ≡ 512
   pub entries_free : length t.index.free ≡ 512
   pub dirty : length t.index.dirty ≡ 512
 

@@ -5,7 +5,6 @@ ghost use Rattle.index_sound.specs.Sound.{sound_index};
 ghost use Rattle.tree_state.specs.Sound as spec;
 
 use crate::live::Live;
-use index_types::flat_tables::id_at;
 
 // The entry carries the id of a live committed node, whose key is the entry's.
 fn owned_right(live: &Live, entry: usize) -> bool
@@ -13,12 +12,11 @@ fn owned_right(live: &Live, entry: usize) -> bool
     ensures { result ≡ spec.owned_right live.now.tree.now entry }
 {
     let tree = live.tree;
-    let id = id_at(&tree.index.payload, entry);
-    let owner = id.0 as usize;
+    let owner = tree.index.entries[entry].payload.0 as usize;
     owner < 256
         && live.counts[owner] > 0
-        && tree.keys.committed[owner]
-        && tree.keys.slot[owner] as usize == entry
+        && tree.keys[owner].committed
+        && tree.keys[owner].key.0 as usize == entry
 }
 
 #[tactic(auto, unfolding(tree_state::specs::Sound::entry_right))]
@@ -26,7 +24,7 @@ fn entry_right(live: &Live, entry: usize) -> bool
     requires { entry < 512 }
     ensures { result ≡ spec.entry_right live.now.tree.now entry }
 {
-    let mark = live.tree.index.mark[entry];
+    let mark = live.tree.index.entries[entry].mark;
     mark == 0 || mark >= 4 || (mark == 1 && owned_right(live, entry))
 }
 

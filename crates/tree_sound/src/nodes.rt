@@ -7,10 +7,7 @@ ghost use Rattle.tree_state.specs.Tree.{key_at};
 use geometry::rect::Rect;
 use geometry_clips::constructed::is_constructed;
 use index_types::NodeId;
-use index_types::flat_tables::id_at;
-use node_tables::{affine_at, clip_at, insets_at, rect_at};
 use tree_state::Tree;
-use tree_types::NodeFlags;
 
 // Its values are finite, its flags known, and its clip is as constructed.
 #[tactic(auto, unfolding(tree_types::specs::Local::finite_local, tree_state::specs::Tree::local_at))]
@@ -18,13 +15,13 @@ fn values_right(tree: &Tree, slot: usize) -> bool
     requires { slot < 256 }
     ensures { result ≡ spec.values_right tree.now slot }
 {
-    let locals = &tree.locals;
-    let clip = clip_at(locals.kind[slot], &locals.clip, slot);
-    rect_at(&locals.bounds, slot).is_finite()
-        && insets_at(&locals.slop, slot).is_finite()
-        && affine_at(&locals.transform, slot).is_finite()
+    let local = tree.locals[slot];
+    let clip = local.to_clip();
+    local.bounds.is_finite()
+        && local.slop.is_finite()
+        && local.transform.is_finite()
         && clip.is_finite()
-        && NodeFlags(locals.flags[slot]).is_known()
+        && local.flags.is_known()
         && is_constructed(clip)
 }
 
@@ -33,8 +30,8 @@ fn marks_right(tree: &Tree, slot: usize) -> bool
     requires { slot < 256 }
     ensures { result ≡ spec.marks_right tree.now slot }
 {
-    let marks = &tree.marks;
-    marks.marked[slot] || !(marks.transform[slot] || marks.clip[slot])
+    let dirty = tree.marks[slot];
+    dirty.marked || !(dirty.transform || dirty.clip)
 }
 
 // Its key is an unmarked entry's, and the entry carries its id.
@@ -42,14 +39,15 @@ fn owns_right(tree: &Tree, slot: usize) -> bool
     requires { slot < 256 }
     ensures { result ≡ spec.owns_right tree.now slot (key_at tree.now slot).0 }
 {
-    let index = &tree.index;
-    let entry = tree.keys.slot[slot] as usize;
-    if entry >= 512 {
+    let key = tree.keys[slot].key;
+    let at = key.0 as usize;
+    if at >= 512 {
         return false;
     }
-    index.mark[entry] == 1
-        && index.generation[entry] == tree.keys.generation[slot]
-        && id_at(&index.payload, entry) == NodeId(slot as u32, tree.slots.generation[slot])
+    let entry = tree.index.entries[at];
+    entry.mark == 1
+        && entry.generation == key.1
+        && entry.payload == NodeId(slot as u32, tree.slots.generation[slot])
 }
 
 // No commit has seen it: its world boxes are empty, and it counts as changed in transform and in clip.
@@ -59,9 +57,9 @@ fn new_right(tree: &Tree, slot: usize) -> bool
     ensures { result ≡ spec.new_right tree.now slot }
 {
     let empty = Rect::new(0.0, 0.0, 0.0, 0.0);
-    rect_at(&tree.worlds.bounds, slot) == empty
-        && rect_at(&tree.worlds.hit_bounds, slot) == empty
-        && (tree.marks.transform[slot] && tree.marks.clip[slot])
+    tree.worlds[slot].bounds == empty
+        && tree.worlds[slot].hit_bounds == empty
+        && (tree.marks[slot].transform && tree.marks[slot].clip)
 }
 
 // Inner: the node of a live slot.
@@ -70,7 +68,7 @@ pub(crate) fn node_right(tree: &Tree, slot: usize) -> bool
     requires { slot < 256 }
     ensures { result ≡ spec.node_right tree.now slot }
 {
-    let committed = tree.keys.committed[slot];
+    let committed = tree.keys[slot].committed;
     values_right(tree, slot)
         && marks_right(tree, slot)
         && if committed {

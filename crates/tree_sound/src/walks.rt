@@ -23,8 +23,8 @@ fn count_removed(tree: &Tree) -> usize
     ensures { (result ≤ 512) × (result ≡ spec.removed_entries tree.now) }
 {
     tree_state::whole(tree);
-    let used = &tree.index.mark[..tree.index.used];
-    used.iter().filter(|mark| **mark >= 4).count()
+    let used = &tree.index.entries[..tree.index.used];
+    used.iter().filter(|entry| entry.mark >= 4).count()
 }
 
 // How many live nodes are committed.
@@ -35,7 +35,7 @@ fn count_committed(live: &Live) -> usize
     let slots = &tree.links.order[..tree.links.count];
     slots
         .iter()
-        .filter(|slot| tree.keys.committed[**slot as usize])
+        .filter(|slot| tree.keys[**slot as usize].committed)
         .count()
 }
 

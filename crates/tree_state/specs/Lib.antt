@@ -1,5 +1,5 @@
 pub mod Locals
+pub mod Worlds
 pub mod Tree
 pub mod Sound
-pub mod Lent
 pub mod Whole

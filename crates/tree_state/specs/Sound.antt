@@ -1,12 +1,12 @@
 -- Document 01's "Sound tree", in its words and order. Stored values are those of live nodes; that any mark, removed entry or pending rectangle
 -- means a commit is needed holds by the definition of `needs_commit`.
-use Rattle.std.specs.Prelude.{ℕ, zero, suc, ◌+◌, ◌≤◌, ◌<◌, ◌≡◌, Bool, true, false, not, ◌&&◌, ◌||◌, cond, List, [], ◌∷◌, eqb, ltb, leb, get_or, take}
+use Rattle.std.specs.Prelude.{ℕ, zero, suc, ◌+◌, ◌≤◌, ◌<◌, ◌≡◌, Bool, true, false, not, ◌&&◌, ◌||◌, cond, List, [], ◌∷◌, eqb, ltb, leb, take}
 use Rattle.geometry.specs.Rectangle.{rect_eq}
 use Rattle.geometry_clips.specs.Clips.{constructed}
 use Rattle.geometry_clips.specs.constructed.Constructed.{as_constructed}
 use Rattle.index_types.specs.declared.NodeId.{NodeId}
 use Rattle.tree_types.specs.Local.{finite_local, known, empty_rect}
-use Rattle.index_types.specs.flat_tables.Tables.{id_at}
+use Rattle.index_types.specs.Slots.{entry}
 use Rattle.counting.specs.Times.{tally, times, every}
 use Rattle.counting.specs.Lists.{once_below}
 use Rattle.link_forest.specs.Forest.{Forest, pre, dep}
@@ -40,8 +40,8 @@ pub record Owns (t : Tree) (x k : ℕ) : Type 0 where
   pub slot : (key_at t x).0 ≡ k
   pub is_entry : k < 512
   pub unmarked : entry_mark t k ≡ 1
-  pub under_key : get_or t.index.generation k 0 ≡ (key_at t x).1
-  pub carries : id_at t.index.payload k ≡ tree.id_at t x
+  pub under_key : (entry t.index k).generation ≡ (key_at t x).1
+  pub carries : (entry t.index k).payload ≡ tree.id_at t x
 
 -- a node that no commit has seen
 pub record Uncommitted (t : Tree) (x : ℕ) : Type 0 where
@@ -80,7 +80,7 @@ pub record SoundTree (t : Tree) : Type 0 where
   pub owned : (k : ℕ) → k < 512 → (entry_mark t k ≡ 0 → ⊥) → is_removed (entry_mark t k) ≡ false
       → (x : ℕ) × Live t x × (committed_at t x ≡ true) × Owns t x k
   -- "its index is sound"
-  pub index : SoundOf t.index.mark t.index.free t.index.frees t.index.dirty t.index.queued t.index.used
+  pub index : SoundOf t.index.entries t.index.free t.index.frees t.index.dirty t.index.queued t.index.used
 
 -- ---- the same as a test that computes
 
@@ -108,7 +108,7 @@ same_id i j = eqb i.0 j.0 && eqb i.1 j.1
 abbrev pub owns_right : Tree → ℕ → ℕ → Bool
 owns_right t x k =
     ltb k 512
-    && (eqb (entry_mark t k) 1 && (eqb (get_or t.index.generation k 0) (key_at t x).1 && same_id (id_at t.index.payload k) (tree.id_at t x)))
+    && (eqb (entry_mark t k) 1 && (eqb ((entry t.index k).generation) (key_at t x).1 && same_id (entry t.index k).payload (tree.id_at t x)))
 
 abbrev pub new_right : Tree → ℕ → Bool
 new_right t x =
@@ -122,7 +122,7 @@ node_right t x = values_right t x && (marks_right t x && key_right t x)
 
 -- one entry: empty, removed, or unmarked and owned by the live committed node whose id it carries
 abbrev pub owner_of : Tree → ℕ → ℕ
-owner_of t k = (id_at t.index.payload k).0
+owner_of t k = (entry t.index k).payload.0
 
 abbrev pub owned_right : Tree → ℕ → Bool
 owned_right t k = is_live t (owner_of t k) && (committed_at t (owner_of t k) && eqb (key_at t (owner_of t k)).0 k)
@@ -137,5 +137,5 @@ unfoldable pub sound_tree : Tree → Bool
 sound_tree t =
     slots_right t.links.order t.links.count t.slots.free t.slots.frees t.slots.used
     && (depths_from 0 (take t.links.count t.links.depth)
-    && (sound_of t.index.mark t.index.free t.index.frees t.index.dirty t.index.queued t.index.used
+    && (sound_of t.index.entries t.index.free t.index.frees t.index.dirty t.index.queued t.index.used
     && (every_of (node_right t) (live_slots t) && (every 512 (entry_right t) && counts_right t))))

@@ -4,19 +4,21 @@ use Rattle.geometry.specs.declared.rect.Rect.{Rect}
 use Rattle.geometry.specs.Rectangle.{rect_eq, has_area}
 use Rattle.index_types.specs.declared.Aabb2D.{Aabb2D}
 use Rattle.tree_types.specs.Local.{rect_to_aabb}
-use Rattle.node_tables.specs.Tables.{rect_at, put_rect, insets_at, affine_at, put_affine, of_rect, is_there, put_clip_rect}
+use Rattle.tree_types.specs.rooms.Rooms.{rect_at, of_rect}
 use Rattle.tree_worlds.specs.declared.Placed.{Placed}
 use Rattle.tree_worlds.specs.World.{at_root, placed, world_box, hit_box}
 use Rattle.link_forest.specs.Table.{less_deep}
 use Rattle.link_table.specs.Links.{end_of}
 use Rattle.index_types.specs.declared.Index.{Index}
 use Rattle.index_state.specs.Index as index
-use Rattle.tree_state.specs.declared.Worlds.{Worlds}
-use Rattle.tree_state.specs.declared.Marks.{Marks}
-use Rattle.tree_state.specs.declared.Keys.{Keys}
+use Rattle.tree_state.specs.declared.WorldNode.{WorldNode}
+use Rattle.tree_state.specs.declared.Dirty.{Dirty}
+use Rattle.tree_state.specs.declared.IndexKey.{IndexKey}
 use Rattle.tree_state.specs.declared.Tree.{Tree}
 use Rattle.tree_state.specs.declared.Refusal.TheVariants as no
-use Rattle.tree_state.specs.Tree.{position_of, id_at, clip_of, marked_at, transform_changed_at, clip_changed_at, committed_at, key_at, stored_place, stored_bounds, stored_hit_bounds, any_of, needs_commit, checked, Verdict}
+use Rattle.tree_state.specs.Locals.{record_at}
+use Rattle.tree_state.specs.Worlds.{stored_world}
+use Rattle.tree_state.specs.Tree.{no_dirty, position_of, id_at, clip_of, marked_at, transform_changed_at, clip_changed_at, committed_at, key_at, world_at, stored_place, stored_bounds, stored_hit_bounds, any_of, needs_commit, checked, Verdict}
 use Rattle.tree_steps.specs.Setters.{held}
 use Rattle.tree_steps.specs.SlotOrder.{slots_below}
 
@@ -67,23 +69,16 @@ handed_down t [] = at_root
 handed_down t (q ∷ qs) = stored_place t q
 
 abbrev pub new_place : Tree → ℕ → ℕ → Placed
-new_place t i x = placed (handed_down t (ancestors t i)) (affine_at t.locals.transform x) (clip_of t x)
+new_place t i x = placed (handed_down t (ancestors t i)) (record_at t.locals x).transform (clip_of t x)
 
 abbrev pub new_bounds : Tree → ℕ → Placed → Rect
-new_bounds t x w = world_box w (rect_at t.locals.bounds x)
+new_bounds t x w = world_box w (record_at t.locals x).bounds
 
 abbrev pub new_hit_bounds : Tree → ℕ → Placed → Rect
-new_hit_bounds t x w = hit_box w (rect_at t.locals.bounds x) (insets_at t.locals.slop x)
+new_hit_bounds t x w = hit_box w (record_at t.locals x).bounds (record_at t.locals x).slop
 
-abbrev pub store_world : Worlds → ℕ → Placed → Rect → Rect → Worlds
-store_world s x w b h =
-    record {
-      transform = put_affine s.transform x w.transform;
-      clipped = set s.clipped x (is_there w.clip);
-      clip = put_clip_rect s.clip x w.clip;
-      bounds = put_rect s.bounds x b;
-      hit_bounds = put_rect s.hit_bounds x h;
-    }
+abbrev pub new_world : Tree → ℕ → Placed → WorldNode
+new_world t x w = stored_world (world_at t x) w (new_bounds t x w) (new_hit_bounds t x w)
 
 -- a rectangle of damage "if its own width and height exceed 0.0"
 abbrev pub if_area : Rect → List Rect
@@ -99,14 +94,13 @@ enter_index false same t x b = index.insert_of t.index b (id_at t x)
 enter_index true true t x b = t.index
 enter_index true false t x b = index.update_of t.index (key_at t x).0 b
 
-abbrev pub enter_keys : Bool → Tree → ℕ → Keys
+-- the key of the entry that comes next
+abbrev pub new_key : Index → IndexKey
+new_key ix = record { committed = true; key = index.key_of (index.slot_of ix) (index.generation_of ix) }
+
+abbrev pub enter_keys : Bool → Tree → ℕ → List IndexKey
 enter_keys true t x = t.keys
-enter_keys false t x =
-    record {
-      committed = set t.keys.committed x true;
-      slot = set t.keys.slot x (index.slot_of t.index);
-      generation = set t.keys.generation x (index.generation_of t.index);
-    }
+enter_keys false t x = set t.keys x (new_key t.index)
 
 -- the tree and the damage so far
 pub record Work : Type 0 where
@@ -115,13 +109,12 @@ pub record Work : Type 0 where
 
 abbrev pub reworked : Tree → ℕ → Placed → Tree
 reworked t x w =
-    let b = new_bounds t x w in
     let h = new_hit_bounds t x w in
     record {
       slots = t.slots;
       links = t.links;
       locals = t.locals;
-      worlds = store_world t.worlds x w b h;
+      worlds = set t.worlds x (new_world t x w);
       marks = t.marks;
       keys = enter_keys (committed_at t x) t x;
       pending = t.pending;
@@ -141,16 +134,12 @@ rework_all k (i ∷ is) = rework_all (rework k i) is
 
 -- ---- the whole
 
-unfoldable pub rects_of : List Float → ℕ → List Rect
-rects_of l zero = []
-rects_of l (suc n) = rects_of l n ++ (rect_at l n ∷ [])
-
 -- "earlier removals stand first"
 abbrev pub begun : Tree → Work
-begun t = record { tree = t; damage = rects_of t.pending.rects t.pending.count }
+begun t = record { tree = t; damage = take t.pending.count t.pending.rects }
 
-abbrev pub no_marks : Marks
-no_marks = record { marked = replicate 256 false; transform = replicate 256 false; clip = replicate 256 false }
+abbrev pub no_marks : List Dirty
+no_marks = replicate 256 no_dirty
 
 -- "An accepted commit leaves no mark, nothing that counts as changed, no removed entry and no pending rectangle"
 abbrev pub finished : Tree → Tree
@@ -181,3 +170,8 @@ numbers_of (r ∷ rs) = of_rect r ++ numbers_of rs
 
 unfoldable pub rects_in_front : List Rect → List Float → List Float
 rects_in_front rs room = numbers_of rs ++ drop (length (numbers_of rs)) room
+
+-- the first n rectangles of a room
+unfoldable pub rects_of : List Float → ℕ → List Rect
+rects_of l zero = []
+rects_of l (suc n) = rects_of l n ++ (rect_at l n ∷ [])

@@ -7,7 +7,7 @@ use Rattle.geometry.specs.Transform.{mapped, inverse}
 use Rattle.geometry_clips.specs.Clips.{inside}
 use Rattle.index_types.specs.declared.NodeId.{NodeId}
 use Rattle.index_types.specs.Boxes.{contains_point, overlaps}
-use Rattle.index_types.specs.flat_tables.Tables as cell
+use Rattle.index_types.specs.Slots.{entry}
 pub use Rattle.index_types.specs.rooms.Rooms.{numbers_of}
 unfoldable pub use Rattle.index_types.specs.rooms.Rooms.{ids_in_front}
 use Rattle.tree_worlds.specs.World.{reached}
@@ -43,7 +43,7 @@ keep_of p (x ∷ xs) = cond (p x) (x ∷ keep_of p xs) (keep_of p xs)
 
 -- the nodes whose entries these are
 abbrev pub payloads : Tree → List ℕ → List ℕ
-payloads t ks = map (λ (k : ℕ). (cell.id_at t.index.payload k).0) ks
+payloads t ks = map (λ (k : ℕ). (entry t.index k).payload.0) ks
 
 -- ---- the tap
 

@@ -1,5 +1,5 @@
 -- The setters on the tree's record: the refusal that applies, in the order of the numbers, and what an accepted call leaves.
-use Rattle.std.specs.Prelude.{ℕ, Bool, true, false, set, ℤ, Ok, Err}
+use Rattle.std.specs.Prelude.{ℕ, Bool, true, false, List, set, ℤ, Ok, Err}
 use Rattle.geometry.specs.declared.rect.Rect.{Rect}
 use Rattle.geometry.specs.declared.insets.Insets.{Insets}
 use Rattle.geometry.specs.Rectangle.{rect_eq, insets_eq, finite_rect, finite_insets}
@@ -10,13 +10,12 @@ use Rattle.geometry_clips.specs.Clips.{constructed, clip_eq, finite_clip}
 use Rattle.index_types.specs.declared.NodeId.{NodeId}
 use Rattle.tree_types.specs.declared.NodeFlags.{NodeFlags}
 use Rattle.tree_types.specs.Local.{known}
-use Rattle.node_tables.specs.Tables.{rect_at, put_rect, insets_at, put_insets, affine_at, put_affine, kind_of, put_clip}
-use Rattle.tree_state.specs.declared.Locals.{Locals}
-use Rattle.tree_state.specs.declared.Marks.{Marks}
+use Rattle.tree_state.specs.declared.Local.{Local}
+use Rattle.tree_state.specs.declared.Dirty.{Dirty}
 use Rattle.tree_state.specs.declared.Tree.{Tree}
 use Rattle.tree_state.specs.declared.Refusal.TheVariants as no
-use Rattle.tree_state.specs.Locals as locals
-use Rattle.tree_state.specs.Tree.{live, clip_of, checked, Verdict, After}
+use Rattle.tree_state.specs.Locals.{record_at, put_clip}
+use Rattle.tree_state.specs.Tree.{live, clip_of, dirty, checked, Verdict, After}
 use Rattle.tree_state.specs.Sound.{sound_tree}
 
 -- ---- refusals
@@ -44,40 +43,52 @@ after v done t = record { answer = v; tree = tree_if v done t }
 
 -- ---- local records and marks
 
-abbrev pub with_locals : Tree → Locals → Marks → Tree
+abbrev pub with_locals : Tree → List Local → List Dirty → Tree
 with_locals t l m =
     record { slots = t.slots; links = t.links; locals = l; worlds = t.worlds; marks = m; keys = t.keys; pending = t.pending; index = t.index }
 
 -- "A change marks the node": alone, or as changed in transform, in clip
-abbrev pub mark_alone : Marks → ℕ → Marks
-mark_alone m x = record { marked = set m.marked x true; transform = m.transform; clip = m.clip }
+abbrev pub marked_alone : Dirty → Dirty
+marked_alone d = record d { marked = true }
 
-abbrev pub mark_transform : Marks → ℕ → Marks
-mark_transform m x = record { marked = set m.marked x true; transform = set m.transform x true; clip = m.clip }
+abbrev pub marked_transform : Dirty → Dirty
+marked_transform d = record d { marked = true; transform = true }
 
-abbrev pub mark_clip : Marks → ℕ → Marks
-mark_clip m x = record { marked = set m.marked x true; transform = m.transform; clip = set m.clip x true }
+abbrev pub marked_clip : Dirty → Dirty
+marked_clip d = record d { marked = true; clip = true }
 
-abbrev pub mark_both : Marks → ℕ → Marks
-mark_both m x = record { marked = set m.marked x true; transform = set m.transform x true; clip = set m.clip x true }
+abbrev pub marked_both : Dirty
+marked_both = record { marked = true; transform = true; clip = true }
 
-abbrev pub store_transform : Locals → ℕ → Affine → Locals
-store_transform l x a = locals.with_transform (put_affine l.transform x a) l
+abbrev pub mark_alone : List Dirty → ℕ → List Dirty
+mark_alone m x = set m x (marked_alone (dirty m x))
 
-abbrev pub store_clip : Locals → ℕ → Clip → Locals
-store_clip l x c = locals.with_kind (set l.kind x (kind_of c)) (locals.with_clip (put_clip l.clip x c) l)
+abbrev pub mark_transform : List Dirty → ℕ → List Dirty
+mark_transform m x = set m x (marked_transform (dirty m x))
 
-abbrev pub store_bounds : Locals → ℕ → Rect → Locals
-store_bounds l x r = locals.with_bounds (put_rect l.bounds x r) l
+abbrev pub mark_clip : List Dirty → ℕ → List Dirty
+mark_clip m x = set m x (marked_clip (dirty m x))
 
-abbrev pub store_slop : Locals → ℕ → Insets → Locals
-store_slop l x s = locals.with_slop (put_insets l.slop x s) l
+abbrev pub mark_both : List Dirty → ℕ → List Dirty
+mark_both m x = set m x marked_both
 
-abbrev pub store_level : Locals → ℕ → ℤ → Locals
-store_level l x z = locals.with_level (set l.level x z) l
+abbrev pub store_transform : List Local → ℕ → Affine → List Local
+store_transform l x a = set l x (record (record_at l x) { transform = a })
 
-abbrev pub store_flags : Locals → ℕ → NodeFlags → Locals
-store_flags l x f = locals.with_flags (set l.flags x f.0) l
+abbrev pub store_clip : List Local → ℕ → Clip → List Local
+store_clip l x c = set l x (put_clip c (record_at l x))
+
+abbrev pub store_bounds : List Local → ℕ → Rect → List Local
+store_bounds l x r = set l x (record (record_at l x) { bounds = r })
+
+abbrev pub store_slop : List Local → ℕ → Insets → List Local
+store_slop l x s = set l x (record (record_at l x) { slop = s })
+
+abbrev pub store_level : List Local → ℕ → ℤ → List Local
+store_level l x z = set l x (record (record_at l x) { level = z })
+
+abbrev pub store_flags : List Local → ℕ → NodeFlags → List Local
+store_flags l x f = set l x (record (record_at l x) { flags = f })
 
 -- "Setters compare as numbers": an equal value leaves the tree as it is
 abbrev pub unless : Bool → Tree → Tree → Tree
@@ -88,17 +99,17 @@ unless false t done = done
 
 unfoldable pub set_transform : Tree → ℕ → Affine → Tree
 set_transform t x a =
-    unless (affine_eq (affine_at t.locals.transform x) a) t (with_locals t (store_transform t.locals x a) (mark_transform t.marks x))
+    unless (affine_eq (record_at t.locals x).transform a) t (with_locals t (store_transform t.locals x a) (mark_transform t.marks x))
 
 -- the clip that is compared and stored is the constructed one
 unfoldable pub set_clip : Tree → ℕ → Clip → Tree
 set_clip t x c = unless (clip_eq (clip_of t x) (constructed c)) t (with_locals t (store_clip t.locals x (constructed c)) (mark_clip t.marks x))
 
 unfoldable pub set_bounds : Tree → ℕ → Rect → Tree
-set_bounds t x r = unless (rect_eq (rect_at t.locals.bounds x) r) t (with_locals t (store_bounds t.locals x r) (mark_alone t.marks x))
+set_bounds t x r = unless (rect_eq (record_at t.locals x).bounds r) t (with_locals t (store_bounds t.locals x r) (mark_alone t.marks x))
 
 unfoldable pub set_slop : Tree → ℕ → Insets → Tree
-set_slop t x s = unless (insets_eq (insets_at t.locals.slop x) s) t (with_locals t (store_slop t.locals x s) (mark_alone t.marks x))
+set_slop t x s = unless (insets_eq (record_at t.locals x).slop s) t (with_locals t (store_slop t.locals x s) (mark_alone t.marks x))
 
 -- level and flags "never call for a commit"
 unfoldable pub set_level : Tree → ℕ → ℤ → Tree

@@ -5,20 +5,20 @@ use Rattle.geometry.specs.Rectangle.{has_area}
 use Rattle.index_types.specs.declared.NodeId.{NodeId}
 use Rattle.tree_types.specs.declared.LocalNode.{LocalNode}
 use Rattle.tree_types.specs.Local.{finite_local, known, stored, empty_rect}
-use Rattle.node_tables.specs.Tables.{put_rect, put_insets, put_affine, kind_of, put_clip}
 use Rattle.link_forest.specs.Table.{post_of}
 use Rattle.link_table.specs.declared.Links.{Links}
 use Rattle.link_table.specs.Links.{end_of, between, add_root, add_last, cut_tree, move_last, move_root}
 use Rattle.index_types.specs.declared.Index.{Index}
 use Rattle.index_state.specs.Index.{remove_of}
 use Rattle.tree_state.specs.declared.Slots.{Slots}
-use Rattle.tree_state.specs.declared.Locals.{Locals}
-use Rattle.tree_state.specs.declared.Worlds.{Worlds}
-use Rattle.tree_state.specs.declared.Keys.{Keys}
+use Rattle.tree_state.specs.declared.Local.{Local}
+use Rattle.tree_state.specs.declared.WorldNode.{WorldNode}
+use Rattle.tree_state.specs.declared.IndexKey.{IndexKey}
 use Rattle.tree_state.specs.declared.Pending.{Pending}
 use Rattle.tree_state.specs.declared.Tree.{Tree}
 use Rattle.tree_state.specs.declared.Refusal.TheVariants as no
-use Rattle.tree_state.specs.Tree.{position_of, live, committed_at, key_at, stored_bounds, checked, Verdict, After}
+use Rattle.tree_state.specs.Locals.{record_of}
+use Rattle.tree_state.specs.Tree.{position_of, live, index_key, committed_at, key_at, world_at, stored_bounds, checked, Verdict, After}
 use Rattle.tree_steps.specs.Setters.{held, of_node, after, mark_both}
 
 -- ---- refusals
@@ -71,31 +71,15 @@ abbrev pub link_new : Tree → Option NodeId → ℕ → Links
 link_new t None x = add_root t.links x
 link_new t (Some h) x = add_last t.links (position_of t h.0) x
 
-abbrev pub store_local : Locals → ℕ → LocalNode → Locals
-store_local l x v =
-    record {
-      bounds = put_rect l.bounds x v.local_bounds;
-      slop = put_insets l.slop x v.hit_slop;
-      transform = put_affine l.transform x v.local_transform;
-      kind = set l.kind x (kind_of v.local_clip);
-      clip = put_clip l.clip x v.local_clip;
-      level = set l.level x v.z_index;
-      flags = set l.flags x v.flags.0;
-    }
+abbrev pub store_local : List Local → ℕ → LocalNode → List Local
+store_local l x v = set l x (record_of v)
 
 -- no world boxes yet; what else stands there is not read before the commit
-abbrev pub clear_boxes : Worlds → ℕ → Worlds
-clear_boxes w x =
-    record {
-      transform = w.transform;
-      clipped = w.clipped;
-      clip = w.clip;
-      bounds = put_rect w.bounds x empty_rect;
-      hit_bounds = put_rect w.hit_bounds x empty_rect;
-    }
+abbrev pub clear_boxes : WorldNode → WorldNode
+clear_boxes w = record w { bounds = empty_rect; hit_bounds = empty_rect }
 
-abbrev pub without_key : Keys → ℕ → Keys
-without_key k x = record { committed = set k.committed x false; slot = k.slot; generation = k.generation }
+abbrev pub without_key : List IndexKey → ℕ → List IndexKey
+without_key k x = set k x (record (index_key k x) { committed = false })
 
 unfoldable pub insert_tree : Tree → Option NodeId → LocalNode → Tree
 insert_tree t parent v =
@@ -104,7 +88,7 @@ insert_tree t parent v =
       slots = take_slot t.slots;
       links = link_new t parent x;
       locals = store_local t.locals x (stored v);
-      worlds = clear_boxes t.worlds x;
+      worlds = set t.worlds x (clear_boxes (world_at t x));
       marks = mark_both t.marks x;
       keys = without_key t.keys x;
       pending = t.pending;
@@ -116,7 +100,7 @@ insert_tree t parent v =
 
 abbrev pub push_rect : Bool → Pending → Rect → Pending
 push_rect false p r = p
-push_rect true p r = record { rects = put_rect p.rects p.count r; count = p.count + 1 }
+push_rect true p r = record { rects = set p.rects p.count r; count = p.count + 1 }
 
 abbrev pub remove_entry : Bool → Index → ℕ → Index
 remove_entry false ix k = ix

@@ -1,8 +1,7 @@
 // The strongest of the candidates of a tap (tree.rs: hit_test_point).
 ghost use Rattle.std.specs.Prelude.{◌≡◌, ◌<◌, IfSome};
 ghost use Rattle.tree_steps.specs.Requests as request;
-ghost use Rattle.tree_verdicts.specs.Held.{Asked};
-ghost use Rattle.tree_taps.specs.fine.Fine.{Shown};
+ghost use Rattle.tree_taps.specs.fine.Fine.{Shown, Tappable};
 ghost use Rattle.tree_taps.specs.candidates.Candidates as spec;
 
 use crate::fine::fine;
@@ -15,7 +14,7 @@ use tree_types::NodeFlags;
 
 // Whether an entry is visited, and its node passes the fine test.
 fn candidate(tree: &Tree, entry: usize, here: Aabb2D, asked: NodeFlags, point: Point) -> bool
-    requires { (entry < 512) × Asked tree.now }
+    requires { (entry < 512) × Tappable tree.now }
     ensures { result ≡ spec.candidate tree.now asked point here entry }
 {
     let visited = index_query::visited(&tree.index, entry, here);
@@ -27,7 +26,7 @@ fn candidate(tree: &Tree, entry: usize, here: Aabb2D, asked: NodeFlags, point: P
 
 // Inner: the slot of the strongest of the candidates, if there is one, after the tests.
 pub fn strongest(tree: &Tree, asked: NodeFlags, point: Point) -> Option<u32>
-    requires { Asked tree.now }
+    requires { Tappable tree.now }
     ensures node { spec.best_of result ≡ request.hit_node tree.now asked point }
     ensures shown { IfSome result (Shown tree.now) }
 {

@@ -2,7 +2,6 @@
 ghost use Rattle.std.specs.Prelude.{◌≡◌, ◌<◌};
 ghost use Rattle.tree_steps.specs.Commit.{ancestors};
 ghost use Rattle.tree_steps.specs.Requests as request;
-ghost use Rattle.tree_verdicts.specs.Held.{Held};
 ghost use Rattle.tree_taps.specs.fine.Fine as spec;
 
 use geometry::point::Point;
@@ -15,15 +14,15 @@ fn in_clip(tree: &Tree, slot: usize, point: Point) -> bool
     requires { slot < 256 }
     ensures { result ≡ spec.clip_holds tree.now point slot }
 {
-    let own = node_tables::clip_at(tree.locals.kind[slot], &tree.locals.clip, slot);
-    let placed = node_tables::affine_at(&tree.worlds.transform, slot);
+    let own = tree.locals[slot].to_clip();
+    let placed = tree.worlds[slot].transform;
     own.contains(placed.inverse().map_point(point))
 }
 
 // The climb: the same of every node above the position `at`, each under its own inverse. (The climb of `write_path` does not stop early, and writes:
 // one function for both would be no plainer.)
 fn in_clips(tree: &Tree, at: usize, point: Point) -> bool
-    requires { (at < tree.now.links.count) × Held tree.now }
+    requires { (at < tree.now.links.count) × spec.Tappable tree.now }
     ensures { result ≡ request.in_stored_clips tree.now (ancestors tree.now at) point }
 {
     let mut depth = tree.links.depth[at];
@@ -45,20 +44,24 @@ fn reaches(tree: &Tree, slot: usize, point: Point) -> bool
     requires { slot < 256 }
     ensures { result ≡ spec.reaches tree.now point slot }
 {
-    let own = node_tables::clip_at(tree.locals.kind[slot], &tree.locals.clip, slot);
-    let placed = node_tables::affine_at(&tree.worlds.transform, slot);
-    let area = node_tables::rect_at(&tree.locals.bounds, slot);
-    let more = node_tables::insets_at(&tree.locals.slop, slot);
-    tree_worlds::contains(placed.inverse(), area, more, own, point)
+    let local = tree.locals[slot];
+    let placed = tree.worlds[slot].transform;
+    tree_worlds::contains(
+        placed.inverse(),
+        local.bounds,
+        local.slop,
+        local.to_clip(),
+        point,
+    )
 }
 
 // Inner: the fine test of a node: flags, the node itself, the clips above it.
 #[tactic(auto, unfolding(crate::specs::fine::Fine::reaches, tree_state::specs::Tree::local_at, tree_steps::specs::Requests::fine))]
 pub(crate) fn fine(tree: &Tree, slot: usize, asked: NodeFlags, point: Point) -> bool
-    requires { spec.Shown tree.now slot × Held tree.now }
+    requires { spec.Shown tree.now slot × spec.Tappable tree.now }
     ensures { result ≡ request.fine tree.now asked point slot }
 {
-    let has = NodeFlags(tree.locals.flags[slot]);
+    let has = tree.locals[slot].flags;
     if !has.contains(asked) {
         return false;
     }

@@ -9,6 +9,7 @@ use tree_state::Tree;
 use tree_verdicts::nodes::id_at;
 
 // Inner: the path from the root to a node in front of the room: the node last, each of the slots above it before. How many: its depth.
+// The room is lent, as there is no heap, and may be longer than the path. The climb of `in_clips` writes nothing and stops early, so this is another.
 pub(crate) fn write_path(tree: &Tree, slot: u32, room: &mut [u32]) -> usize
     requires { Shown tree.now slot × Held tree.now × (512 ≤ length room.old) }
     ensures rooms { room.new ≡ request.ids_in_front (request.path_to tree.now slot) room.old }

@@ -1,1 +1,2 @@
+pub mod rooms
 pub mod Local

@@ -2,6 +2,8 @@
 // the index carries them.
 #![tactic(auto)]
 
+pub mod rooms; // rectangles in lent room
+
 ghost use Rattle.std.specs.Prelude.{◌≡◌};
 ghost use Rattle.tree_types.specs.Local as spec;
 
@@ -21,15 +23,18 @@ const PICKABLE: u8 = 2;
 
 const FOCUSABLE: u8 = 4;
 
-impl NodeFlags {
-    // Visible and pickable.
-    pub fn default() -> Self
-        ensures { result ≡ spec.default_flags }
-    {
+// Visible and pickable.
+impl Default for NodeFlags {
+    ghost is_default = { λ f. f ≡ spec.default_flags };
+
+    fn default() -> NodeFlags {
         NodeFlags(3)
     }
+}
 
+impl NodeFlags {
     // All flags of `other`.
+    #[tactic(auto, unfolding(crate::specs::Local::has_all))]
     pub fn contains(self, other: NodeFlags) -> bool
         ensures { result ≡ spec.has_all self other }
     {
@@ -55,12 +60,10 @@ pub struct LocalNode {
     pub flags: NodeFlags,
 }
 
-impl LocalNode {
-    pub fn default() -> Self
-        ensures { result ≡ spec.default_local }
-    {
-        let flags = NodeFlags::default();
-        let identity = Affine::identity();
+impl Default for LocalNode {
+    ghost is_default = { λ v. v ≡ spec.default_local };
+
+    fn default() -> LocalNode {
         LocalNode {
             local_bounds: Rect {
                 x0: 0.0,
@@ -68,16 +71,11 @@ impl LocalNode {
                 x1: 0.0,
                 y1: 0.0,
             },
-            hit_slop: Insets {
-                x0: 0.0,
-                y0: 0.0,
-                x1: 0.0,
-                y1: 0.0,
-            },
-            local_transform: identity,
+            hit_slop: Insets::default(),
+            local_transform: Affine::identity(),
             local_clip: Clip::None,
             z_index: 0,
-            flags,
+            flags: NodeFlags::default(),
         }
     }
 }
@@ -134,7 +132,7 @@ impl QueryFilter {
     }
 }
 
-// util.rs: the index's box of a rectangle.
+// util.rs: the index's box of a rectangle. No `From`: both types are of other crates.
 pub fn rect_to_aabb(r: Rect) -> Aabb2D
     ensures { result ≡ spec.rect_to_aabb r }
 {

@@ -1,9 +1,9 @@
 -- What a call knows of a tree that is found sound, of a node that is found live, and of a request that is accepted.
-use Rattle.std.specs.Prelude.{◌≡◌, ℕ, true, false, ◌<◌, ◌≤◌, take}
+use Rattle.std.specs.Prelude.{◌≡◌, ℕ, true, false, ◌<◌, ◌≤◌, length, get_or, take}
 use Rattle.index_types.specs.declared.NodeId.{NodeId}
 use Rattle.link_forest.specs.Table.{depths_from}
 use Rattle.tree_state.specs.declared.Tree.{Tree}
-use Rattle.tree_state.specs.Tree.{position_of, generation_at, live, needs_commit}
+use Rattle.tree_state.specs.Tree.{position_of, generation_at, live, entry_mark, needs_commit}
 use Rattle.tree_state.specs.Sound.{Live, SoundTree, sound_tree}
 use Rattle.tree_state.specs.Whole.{Whole}
 
@@ -12,11 +12,20 @@ pub record Listed (t : Tree) : Type 0 where
   pub count_fits : t.links.count ≤ 256
   pub low : (x : ℕ) → Live t x → x < 256
 
+-- what the need of a commit asks, and every sound tree has: the places of the table hold slots, and an entry beyond those in use is empty
+pub record Ranged (t : Tree) : Type 0 where
+  pub count_fits : t.links.count ≤ 256
+  pub orders : length t.links.order ≡ 256
+  pub low : (j : ℕ) → j < t.links.count → get_or t.links.order j 0 < 256
+  pub used_fits : t.index.used ≤ 512
+  pub beyond : (k : ℕ) → t.index.used ≤ k → entry_mark t k ≡ 0
+
 pub record Held (t : Tree) : Type 0 where
   pub test : sound_tree t ≡ true
   pub sound : SoundTree t
   pub whole : Whole t
   pub listed : Listed t
+  pub ranged : Ranged t
   pub count_fits : t.links.count ≤ 256
   pub depths : depths_from 0 (take t.links.count t.links.depth) ≡ true
   pub low : (x : ℕ) → Live t x → x < 256

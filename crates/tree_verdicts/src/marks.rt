@@ -2,14 +2,16 @@
 ghost use Rattle.std.specs.Prelude.{◌≡◌, ◌<◌};
 ghost use Rattle.tree_steps.specs.Setters as spec;
 
-use tree_state::Marks;
+use tree_state::Dirty;
 
 // Inner: the tables hold 256.
-pub fn mark_both(marks: &mut Marks, slot: usize)
+pub fn mark_both(marks: &mut [Dirty; 256], slot: usize)
     requires { slot < 256 }
     ensures { marks.new ≡ spec.mark_both marks.old slot }
 {
-    marks.marked[slot] = true;
-    marks.transform[slot] = true;
-    marks.clip[slot] = true;
+    marks[slot] = Dirty {
+        marked: true,
+        transform: true,
+        clip: true,
+    };
 }

@@ -10,8 +10,8 @@ pub(crate) fn changed(tree: &Tree, x: u32) -> bool
     requires { x < 256 }
     ensures { result ≡ changed_at tree.now x }
 {
-    let x = x as usize;
-    tree.marks.marked[x] & (tree.marks.transform[x] | tree.marks.clip[x])
+    let dirty = tree.marks[x as usize];
+    dirty.marked & (dirty.transform | dirty.clip)
 }
 
 // Inner: where the walk of the slot x from its position `at` ends: behind its whole segment, or right behind itself.

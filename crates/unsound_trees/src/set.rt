@@ -1,11 +1,26 @@
-// One number of a tree's tables, changed by hand. A place beyond a table changes nothing.
+// One number of a tree's tables, changed by hand. A place beyond a table changes nothing. The numbers of a table of records count one after the other,
+// record by record; of a clip the edges and then the radii.
+use geometry::affine::Affine;
+use geometry::insets::Insets;
+use geometry::rect::Rect;
+use geometry_clips::rounded_rect_radii::RoundedRectRadii;
+use index_types::{Aabb2D, NodeId};
 use text_lines::words::{Words, number, whole};
-use tree_state::Tree;
+use tree_state::{Local, Tree};
+use tree_types::NodeFlags;
+
+fn at<T, F>(table: &mut [T], place: u32, store: F)
+where
+    F: FnOnce(&mut T),
+    requires { F.IsAlwaysCallable store }
+{
+    if let Some(old) = table.get_mut(place as usize) {
+        store(old);
+    }
+}
 
 fn put<T: Copy>(table: &mut [T], place: u32, value: T) {
-    if let Some(old) = table.get_mut(place as usize) {
-        *old = value;
-    }
+    at(table, place, |old| *old = value);
 }
 
 // `TABLE PLACE NUMBER`: a whole number, or an f64 by its bits. Nothing where the words say no such thing.
@@ -16,33 +31,7 @@ pub(crate) fn change(words: &mut Words, tree: &mut Tree) -> Option<()> {
     if !words.is_empty() {
         return None;
     }
-    node_words(tree, name, place, value)
-}
-
-// The nodes' tables of whole numbers.
-fn node_words(tree: &mut Tree, name: &[u8], place: u32, value: &[u8]) -> Option<()> {
-    match name {
-        b"slots.generation" => put(&mut tree.slots.generation, place, whole(value)?),
-        b"slots.free" => put(&mut tree.slots.free, place, whole(value)?),
-        b"links.order" => put(&mut tree.links.order, place, whole(value)?),
-        b"links.depth" => put(&mut tree.links.depth, place, whole(value)?),
-        b"keys.slot" => put(&mut tree.keys.slot, place, whole(value)?),
-        b"keys.generation" => put(&mut tree.keys.generation, place, whole(value)?),
-        _ => return entry_words(tree, name, place, value),
-    }
-    Some(())
-}
-
-// The entries'.
-fn entry_words(tree: &mut Tree, name: &[u8], place: u32, value: &[u8]) -> Option<()> {
-    match name {
-        b"index.generation" => put(&mut tree.index.generation, place, whole(value)?),
-        b"index.free" => put(&mut tree.index.free, place, whole(value)?),
-        b"index.dirty" => put(&mut tree.index.dirty, place, whole(value)?),
-        b"index.payload" => put(&mut tree.index.payload, place, whole(value)?),
-        _ => return counts(tree, name, place, value),
-    }
-    Some(())
+    counts(tree, name, place, value)
 }
 
 fn count(value: &[u8]) -> Option<usize> {
@@ -58,65 +47,194 @@ fn counts(tree: &mut Tree, name: &[u8], place: u32, value: &[u8]) -> Option<()> 
         b"index.used" => tree.index.used = count(value)?,
         b"index.frees" => tree.index.frees = count(value)?,
         b"index.queued" => tree.index.queued = count(value)?,
-        _ => return bytes(tree, name, place, value),
+        _ => return words(tree, name, place, value),
+    }
+    Some(())
+}
+
+// One number of an id, of a rectangle and so on, in the order of its fields.
+fn put_in_id(id: &mut NodeId, field: u32, n: u32) {
+    let mut row = [id.0, id.1];
+    put(&mut row, field, n);
+    *id = NodeId(row[0], row[1]);
+}
+
+fn put_in_rect(rect: &mut Rect, field: u32, f: f64) {
+    let mut row = [rect.x0, rect.y0, rect.x1, rect.y1];
+    put(&mut row, field, f);
+    let [x0, y0, x1, y1] = row;
+    *rect = Rect { x0, y0, x1, y1 };
+}
+
+fn put_in_insets(insets: &mut Insets, field: u32, f: f64) {
+    let mut row = [insets.x0, insets.y0, insets.x1, insets.y1];
+    put(&mut row, field, f);
+    let [x0, y0, x1, y1] = row;
+    *insets = Insets { x0, y0, x1, y1 };
+}
+
+fn put_in_transform(t: &mut Affine, field: u32, number: f64) {
+    let mut row = [t.a, t.b, t.c, t.d, t.e, t.f];
+    put(&mut row, field, number);
+    let [a, b, c, d, e, f] = row;
+    *t = Affine { a, b, c, d, e, f };
+}
+
+// The edges and then the radii.
+fn put_in_clip(local: &mut Local, field: u32, f: f64) {
+    let (r, q) = (local.clip, local.radii);
+    let mut row = [
+        r.x0,
+        r.y0,
+        r.x1,
+        r.y1,
+        q.top_left,
+        q.top_right,
+        q.bottom_right,
+        q.bottom_left,
+    ];
+    put(&mut row, field, f);
+    let [
+        x0,
+        y0,
+        x1,
+        y1,
+        top_left,
+        top_right,
+        bottom_right,
+        bottom_left,
+    ] = row;
+    local.clip = Rect { x0, y0, x1, y1 };
+    local.radii = RoundedRectRadii {
+        top_left,
+        top_right,
+        bottom_right,
+        bottom_left,
+    };
+}
+
+fn put_in_box(aabb: &mut Aabb2D, field: u32, f: f64) {
+    let mut row = [aabb.min_x, aabb.min_y, aabb.max_x, aabb.max_y];
+    put(&mut row, field, f);
+    let [min_x, min_y, max_x, max_y] = row;
+    *aabb = Aabb2D::new(min_x, min_y, max_x, max_y);
+}
+
+// The whole numbers. A word that is none is the bits of an f64.
+fn words(tree: &mut Tree, name: &[u8], place: u32, value: &[u8]) -> Option<()> {
+    let Some(n) = whole::<u32>(value) else {
+        return local_floats(tree, name, place, number(value)?);
+    };
+    match name {
+        b"slots.generation" => put(&mut tree.slots.generation, place, n),
+        b"slots.free" => put(&mut tree.slots.free, place, n),
+        b"links.order" => put(&mut tree.links.order, place, n),
+        b"links.depth" => put(&mut tree.links.depth, place, n),
+        b"keys.slot" => at(&mut tree.keys, place, |k| k.key.0 = n),
+        b"keys.generation" => at(&mut tree.keys, place, |k| k.key.1 = n),
+        b"index.generation" => at(&mut tree.index.entries, place, |e| e.generation = n),
+        b"index.free" => put(&mut tree.index.free, place, n),
+        b"index.dirty" => put(&mut tree.index.dirty, place, n),
+        b"index.payload" => at(
+            &mut tree.index.entries,
+            place / 2,
+            |e| put_in_id(&mut e.payload, place % 2, n),
+        ),
+        _ => return bytes(tree, name, place, n),
     }
     Some(())
 }
 
 // From 255 on 255.
-fn byte(value: &[u8]) -> Option<u8> {
-    Some(u8::try_from(whole::<u32>(value)?).unwrap_or(u8::MAX))
-}
-
-fn bytes(tree: &mut Tree, name: &[u8], place: u32, value: &[u8]) -> Option<()> {
+fn bytes(tree: &mut Tree, name: &[u8], place: u32, n: u32) -> Option<()> {
+    let byte = u8::try_from(n).unwrap_or(u8::MAX);
     match name {
-        b"locals.kind" => put(&mut tree.locals.kind, place, byte(value)?),
-        b"locals.flags" => put(&mut tree.locals.flags, place, byte(value)?),
-        b"index.mark" => put(&mut tree.index.mark, place, byte(value)?),
-        b"index.kept" => put(&mut tree.index.kept, place, byte(value)?),
-        b"backend.present" => put(&mut tree.index.backend.present, place, byte(value)?),
-        _ => return truths(tree, name, place, value),
+        b"locals.kind" => at(&mut tree.locals, place, |l| l.kind = byte),
+        b"locals.flags" => at(&mut tree.locals, place, |l| l.flags = NodeFlags(byte)),
+        b"index.mark" => at(&mut tree.index.entries, place, |e| e.mark = byte),
+        b"index.kept" => at(&mut tree.index.entries, place, |e| e.kept = byte),
+        b"backend.present" => at(&mut tree.index.backend.entries, place, |s| s.present = byte),
+        _ => return truths(tree, name, place, n != 0),
     }
     Some(())
 }
 
-fn truth(value: &[u8]) -> Option<bool> {
-    Some(whole::<u32>(value)? != 0)
-}
-
-fn truths(tree: &mut Tree, name: &[u8], place: u32, value: &[u8]) -> Option<()> {
+fn truths(tree: &mut Tree, name: &[u8], place: u32, truth: bool) -> Option<()> {
     match name {
-        b"marks.marked" => put(&mut tree.marks.marked, place, truth(value)?),
-        b"marks.transform" => put(&mut tree.marks.transform, place, truth(value)?),
-        b"marks.clip" => put(&mut tree.marks.clip, place, truth(value)?),
-        b"keys.committed" => put(&mut tree.keys.committed, place, truth(value)?),
-        b"worlds.clipped" => put(&mut tree.worlds.clipped, place, truth(value)?),
-        _ => return node_floats(tree, name, place, value),
+        b"marks.marked" => at(&mut tree.marks, place, |m| m.marked = truth),
+        b"marks.transform" => at(&mut tree.marks, place, |m| m.transform = truth),
+        b"marks.clip" => at(&mut tree.marks, place, |m| m.clip = truth),
+        b"keys.committed" => at(&mut tree.keys, place, |k| k.committed = truth),
+        b"worlds.clipped" => at(&mut tree.worlds, place, |w| w.clipped = truth),
+        _ => return None,
     }
     Some(())
 }
 
-fn node_floats(tree: &mut Tree, name: &[u8], place: u32, value: &[u8]) -> Option<()> {
+fn local_floats(tree: &mut Tree, name: &[u8], place: u32, f: f64) -> Option<()> {
+    let locals = &mut tree.locals;
     match name {
-        b"locals.bounds" => put(&mut tree.locals.bounds, place, number(value)?),
-        b"locals.slop" => put(&mut tree.locals.slop, place, number(value)?),
-        b"locals.transform" => put(&mut tree.locals.transform, place, number(value)?),
-        b"locals.clip" => put(&mut tree.locals.clip, place, number(value)?),
-        b"worlds.transform" => put(&mut tree.worlds.transform, place, number(value)?),
-        b"worlds.clip" => put(&mut tree.worlds.clip, place, number(value)?),
-        b"worlds.bounds" => put(&mut tree.worlds.bounds, place, number(value)?),
-        b"worlds.hit_bounds" => put(&mut tree.worlds.hit_bounds, place, number(value)?),
-        b"pending.rects" => put(&mut tree.pending.rects, place, number(value)?),
-        _ => return entry_floats(tree, name, place, value),
+        b"locals.bounds" => at(
+            locals,
+            place / 4,
+            |l| put_in_rect(&mut l.bounds, place % 4, f),
+        ),
+        b"locals.slop" => at(
+            locals,
+            place / 4,
+            |l| put_in_insets(&mut l.slop, place % 4, f),
+        ),
+        b"locals.transform" => at(
+            locals,
+            place / 6,
+            |l| put_in_transform(&mut l.transform, place % 6, f),
+        ),
+        b"locals.clip" => at(locals, place / 8, |l| put_in_clip(l, place % 8, f)),
+        _ => return world_floats(tree, name, place, f),
     }
     Some(())
 }
 
-fn entry_floats(tree: &mut Tree, name: &[u8], place: u32, value: &[u8]) -> Option<()> {
+fn world_floats(tree: &mut Tree, name: &[u8], place: u32, f: f64) -> Option<()> {
+    let worlds = &mut tree.worlds;
     match name {
-        b"index.aabb" => put(&mut tree.index.aabb, place, number(value)?),
-        b"index.prev" => put(&mut tree.index.prev, place, number(value)?),
-        b"backend.boxes" => put(&mut tree.index.backend.boxes, place, number(value)?),
+        b"worlds.transform" => at(
+            worlds,
+            place / 6,
+            |w| put_in_transform(&mut w.transform, place % 6, f),
+        ),
+        b"worlds.clip" => at(
+            worlds,
+            place / 4,
+            |w| put_in_rect(&mut w.clip, place % 4, f),
+        ),
+        b"worlds.bounds" => at(
+            worlds,
+            place / 4,
+            |w| put_in_rect(&mut w.bounds, place % 4, f),
+        ),
+        b"worlds.hit_bounds" => at(
+            worlds,
+            place / 4,
+            |w| put_in_rect(&mut w.hit_bounds, place % 4, f),
+        ),
+        _ => return other_floats(tree, name, place, f),
+    }
+    Some(())
+}
+
+fn other_floats(tree: &mut Tree, name: &[u8], place: u32, f: f64) -> Option<()> {
+    let (row, field) = (place / 4, place % 4);
+    let entries = &mut tree.index.entries;
+    match name {
+        b"pending.rects" => at(&mut tree.pending.rects, row, |r| put_in_rect(r, field, f)),
+        b"index.aabb" => at(entries, row, |e| put_in_box(&mut e.aabb, field, f)),
+        b"index.prev" => at(entries, row, |e| put_in_box(&mut e.prev, field, f)),
+        b"backend.boxes" => at(
+            &mut tree.index.backend.entries,
+            row,
+            |s| put_in_box(&mut s.aabb, field, f),
+        ),
         _ => return None,
     }
     Some(())

@@ -1,5 +1,5 @@
 -- After a commit every live node's stored place and boxes are those worked out afresh, and its entry has its hit box.
-use mathlib.Core.Path.{◌≡◌, refl, sym, ap, ap₂, ◌∙◌}
+use mathlib.Core.Path.{◌≡◌, refl, sym, ap, ap₂, ◌∙◌, subst}
 use mathlib.Core.Bool.{Bool, true, false, ◌&&◌, ◌||◌}
 use mathlib.Core.List.{List, [], ◌∷◌}
 use Prim.Native.Nat.{ℕ, ◌≤◌}
@@ -11,18 +11,25 @@ use Rattle.link_forest.specs.Forest.{Forest, has, above}
 use Rattle.link_forest.proofs.Bools.{never}
 use Rattle.link_forest.proofs.Counting.{above_has, has_count}
 use Rattle.link_forest.proofs.Rep.{rep_times}
+use Rattle.index_types.specs.declared.Aabb2D.{Aabb2D}
+use Rattle.index_types.specs.declared.Slot.{Slot}
+use Rattle.index_types.specs.declared.Index.{Index}
+use Rattle.index_types.specs.Slots.{entry_in}
+use Rattle.index_commit.proofs.Loop.{commit_bare}
+use Rattle.index_state.specs.Index.{work_of, commit_of}
+use Rattle.tree_types.specs.Local.{rect_to_aabb}
 use Rattle.tree_state.specs.declared.Tree.{Tree}
-use Rattle.tree_state.specs.Tree.{is_live, live_slots, marked_at, committed_at, any_of, needs_commit}
+use Rattle.tree_state.specs.Tree.{is_live, live_slots, marked_at, committed_at, key_at, stored_hit_bounds, any_of, needs_commit}
 use Rattle.tree_laws.proofs.Ground.{live_has}
 use Rattle.tree_steps.specs.Commit.{changed_at, visits_of, rework_all, begun, finished, work_for, commit_tree}
 use Rattle.plan.specs.Lists.{any}
 use Rattle.plan.specs.Plan.{Plan, Mark}
 use Rattle.plan.specs.Visits.{counts_as_changed, committed}
 use Rattle.plan.specs.Afresh.{lineage, world_bounds, world_hit_bounds}
-use Rattle.agreement.specs.Afresh.{Afresh}
+use Rattle.agreement.specs.Afresh.{Alike, Afresh}
 use Rattle.agreement.proofs.Same.{Known, Settled, Right}
 use Rattle.agreement.proofs.worlds.Visits.{Visited, visited}
-use Rattle.agreement.proofs.worlds.Fold.{Fresh, Ran, ran}
+use Rattle.agreement.proofs.worlds.Fold.{Fresh, fresh_kept, Ran, ran}
 use Rattle.agreement.proofs.worlds.Entries.{Entered, Fitting, Inside, Entries, keyed_sound, good_inside, entries_ran}
 use Rattle.agreement.proofs.worlds.Keyed.{KeyedTree}
 use Rattle.agreement.proofs.worlds.Room.{sound_fitting}
@@ -123,8 +130,7 @@ module _ (t : Tree) (p : Plan) (K : Known t p) where
           | no n ↦
               let z : times x (visited t) ≡ 0 = omega arith in
               let U = unvisited x h z in
-              let R = worlds_ran.rest x z in
-              (record { place = R.place ∙ U.0.place; bounds = R.bounds ∙ U.0.bounds; hit_bounds = R.hit_bounds ∙ U.0.hit_bounds }, entries_done.stays x U.1)
+              (fresh_kept t done p x (worlds_ran.rest x z) U.0, entries_done.stays x U.1)
         ]
 
     -- every live node is right after the reworks
@@ -164,11 +170,18 @@ module _ (t : Tree) (p : Plan) (K : Known t p) where
 -- ---- the whole commit
 
 -- finishing changes neither worlds nor keys nor entries' boxes
+box_stays : (ix : Index) (e : ℕ) → (entry_in ix.entries e).aabb ≡ (entry_in (commit_of ix (work_of ix)).entries e).aabb
+box_stays ix e = ap (λ (s : Slot). s.aabb) (sym (commit_bare ix e))
+
 finish : (t : Tree) (p : Plan) → Afresh t p → Afresh (finished t) p
 finish t p A =
     record {
       place = A.place;
-      boxes = λ x h. record { bounds = (A.boxes x h).bounds; hit_bounds = (A.boxes x h).hit_bounds; entry = (A.boxes x h).entry };
+      boxes = λ x h. record {
+        bounds = (A.boxes x h).bounds;
+        hit_bounds = (A.boxes x h).hit_bounds;
+        entry = subst (λ (b : Aabb2D). Alike b (rect_to_aabb (world_hit_bounds p x))) (box_stays t.index (key_at t x).0) (A.boxes x h).entry;
+      };
     }
 
 -- and the plan's commit neither links nor local records
@@ -200,7 +213,9 @@ module _ (t : Tree) (p : Plan) (K : Known t p) (E : Entered t p.links) (Vs : Vis
   commit_entered = go (needs_commit t) refl
     where
       go : (b : Bool) → needs_commit t ≡ b → Entered (work_for b t).tree p.links
-      go true n = (entries_done t p K E Vs).keyed.boxed
+      go true n = λ x h c.
+          let d = done t p K E Vs in
+          subst (λ (b : Aabb2D). Alike b (rect_to_aabb (stored_hit_bounds d x))) (box_stays d.index (key_at d x).0) ((entries_done t p K E Vs).keyed.boxed x h c)
       go false n = E
 
   -- no commit touches slots, links or local records

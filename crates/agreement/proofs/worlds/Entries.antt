@@ -6,9 +6,8 @@ use mathlib.Core.List.{List, [], ◌∷◌, map}
 use Prim.Native.Nat.{ℕ, ◌≤◌, ◌<◌}
 use native.Mathlib.Omega.{arith}
 use native.Mathlib.Decide.{ℕ_discrete}
-use lib.ListN.{get_or}
+use Rattle.index_types.specs.Slots.{entry_in}
 use Rattle.geometry.specs.Rectangle.{rect_eq}
-use Rattle.index_types.specs.flat_tables.Tables.{box_at, id_at}
 use Rattle.counting.specs.Times.{times}
 use Rattle.counting.proofs.Counting.{hit, miss}
 use Rattle.index_types.specs.declared.NodeId.{NodeId}
@@ -17,22 +16,23 @@ use Rattle.link_forest.specs.Forest.{Forest, has}
 use Rattle.index_sound.proofs.Exact.{counted}
 use Rattle.link_table.specs.declared.Links.{Links}
 use Rattle.index_state.specs.Index.{slot_of}
+use Rattle.tree_state.specs.declared.IndexKey.{IndexKey}
 use Rattle.tree_state.specs.declared.Tree.{Tree}
-use Rattle.tree_state.specs.Tree.{committed_at, key_at, stored_hit_bounds}
+use Rattle.tree_state.specs.Tree.{index_key, committed_at, key_at, stored_hit_bounds}
 use Rattle.tree_state.specs.Tree as tree
 use Rattle.tree_state.specs.Sound.{SoundTree, Owns}
 use Rattle.tree_state.specs.Whole.{Whole}
 use Rattle.tree_laws.proofs.Ground.{Linked, low, slot_live, live_has}
-use Rattle.tree_steps.specs.Commit.{Work, new_place, new_hit_bounds, reworked, rework, rework_all, enter_keys}
+use Rattle.tree_steps.specs.Commit.{Work, new_place, new_hit_bounds, new_world, reworked, rework, rework_all, enter_keys}
 use Rattle.agreement.specs.Afresh.{Alike}
 use Rattle.link_forest.proofs.Bools.{never}
 use Rattle.agreement.proofs.worlds.Visits.{slot_at, Good}
-use Rattle.agreement.proofs.worlds.Keyed.{KeyedTree, keyed_turn, committed_now, committed_stays, key_stays}
+use Rattle.agreement.proofs.worlds.Keyed.{KeyedTree, keyed_turn, committed_now, keys_stay}
 
 -- each committed live node's entry has its stored hit box, or one equal as numbers
 abbrev pub Entered : Tree → Forest → Type 0
 Entered t f =
-    (x : ℕ) → has x f ≡ true → committed_at t x ≡ true → Alike (box_at t.index.aabb (key_at t x).0) (rect_to_aabb (stored_hit_bounds t x))
+    (x : ℕ) → has x f ≡ true → committed_at t x ≡ true → Alike (entry_in t.index.entries (key_at t x).0).aabb (rect_to_aabb (stored_hit_bounds t x))
 
 -- ---- a sound tree's keys
 module _ (t : Tree) (f : Forest) (W : Whole t) (S : SoundTree t) (L : Linked t f) where
@@ -44,10 +44,10 @@ module _ (t : Tree) (f : Forest) (W : Whole t) (S : SoundTree t) (L : Linked t f
       record {
         keys = W.keys;
         index = W.index;
-        hits_whole = W.worlds.hit_bounds;
-        counts = counted t.index.mark t.index.free t.index.frees t.index.dirty t.index.queued t.index.used W.index.mark W.index.free W.index.dirty S.index;
+        worlds = W.worlds;
+        counts = counted t.index.entries t.index.free t.index.frees t.index.dirty t.index.queued t.index.used W.index.entries W.index.free W.index.dirty S.index;
         held = λ x h c. ((owns x h c).is_entry, λ e. omega (arith, (owns x h c).unmarked));
-        apart = λ x y h g c d e. let u : tree.id_at t x ≡ tree.id_at t y = sym (owns x h c).carries ∙ ap (id_at t.index.payload) e ∙ (owns y g d).carries in ap (λ (i : NodeId). i.0) u;
+        apart = λ x y h g c d e. let u : tree.id_at t x ≡ tree.id_at t y = sym (owns x h c).carries ∙ ap (λ (n : ℕ). (entry_in t.index.entries n).payload) e ∙ (owns y g d).carries in ap (λ (i : NodeId). i.0) u;
         boxed = E;
       }
 
@@ -73,8 +73,8 @@ pub record Entries (t : Tree) (f : Forest) (vs : List ℕ) (r : Tree) : Type 0 w
   pub key_stays : (y : ℕ) → committed_at t y ≡ true → key_at r y ≡ key_at t y
   pub rest : (y : ℕ) → times y vs ≡ 0 → (committed_at r y ≡ committed_at t y) × (key_at r y ≡ key_at t y)
 
-own_key : (t : Tree) (x : ℕ) (b : Bool) → b ≡ true → (get_or (enter_keys b t x).slot x 0 ≡ (key_at t x).0) × (get_or (enter_keys b t x).generation x 0 ≡ (key_at t x).1)
-own_key t x true e = (refl, refl)
+own_key : (t : Tree) (x : ℕ) (b : Bool) → b ≡ true → (index_key (enter_keys b t x) x).key ≡ key_at t x
+own_key t x true e = refl
 own_key t x false e = never e refl
 
 -- one turn
@@ -84,23 +84,23 @@ module _ (t : Tree) (f : Forest) (L : Linked t f) (K : KeyedTree t f) (i x : ℕ
 
   pub turn_keyed : KeyedTree after f
   turn_keyed =
-      keyed_turn t f (low t f L) K x h (new_hit_bounds t x (new_place t i x)) (committed_at t x) (rect_eq (stored_hit_bounds t x) (new_hit_bounds t x (new_place t i x))) refl refl fits
+      keyed_turn t f (low t f L) K x h (new_world t x (new_place t i x)) (committed_at t x) (rect_eq (stored_hit_bounds t x) (new_hit_bounds t x (new_place t i x))) refl refl fits
 
   pub turn_now : committed_at after x ≡ true
-  turn_now = committed_now t f (low t f L) K x h (new_hit_bounds t x (new_place t i x)) (committed_at t x) refl
+  turn_now = committed_now t f (low t f L) K x h (new_world t x (new_place t i x)) (committed_at t x) refl
 
   pub turn_committed : (y : ℕ) → (y ≡ x → ⊥) → committed_at after y ≡ committed_at t y
-  turn_committed y n = committed_stays t x y n (committed_at t x)
+  turn_committed y n = ap (λ (i : IndexKey). i.committed) (keys_stay t x y n (committed_at t x))
 
   turn_stays : (y : ℕ) → committed_at t y ≡ true → committed_at after y ≡ true
   turn_stays y c = elim (ℕ_discrete y x) [ yes e ↦ rw e turn_now | no n ↦ turn_committed y n ∙ c ]
 
   pub turn_other : (y : ℕ) → (y ≡ x → ⊥) → key_at after y ≡ key_at t y
-  turn_other y n = let e = key_stays t x y n (committed_at t x) in rw (e.0, e.1)
+  turn_other y n = ap (λ (i : IndexKey). i.key) (keys_stay t x y n (committed_at t x))
 
   turn_key : (y : ℕ) → committed_at t y ≡ true → key_at after y ≡ key_at t y
   turn_key y c =
-      elim (ℕ_discrete y x) [ yes e ↦ let u = own_key t x (committed_at t x) (rw e at c) in rw (e, u.0, u.1) | no n ↦ turn_other y n ]
+      elim (ℕ_discrete y x) [ yes e ↦ rw (e, own_key t x (committed_at t x) (rw e at c)) | no n ↦ turn_other y n ]
 
 -- one turn more in front
 module _ (t u r : Tree) (f : Forest) (x : ℕ) (vs : List ℕ) where

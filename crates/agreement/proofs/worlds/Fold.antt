@@ -6,20 +6,21 @@ use mathlib.Core.List.{List, [], ◌∷◌, map}
 use Prim.Native.Nat.{ℕ, ◌≤◌, ◌<◌}
 use native.Mathlib.Omega.{arith}
 use native.Mathlib.Decide.{ℕ_discrete}
+use lib.ListN.{length}
 use Rattle.counting.specs.Times.{times}
 use Rattle.counting.proofs.Counting.{hit, miss}
 use Rattle.link_forest.specs.Forest.{Forest, has, above}
 use Rattle.link_forest.proofs.Holds.{Parent, Above, parent_above}
-use Rattle.tree_worlds.specs.declared.Placed.{Placed}
 use Rattle.tree_state.specs.declared.Tree.{Tree}
-use Rattle.tree_state.specs.Tree.{local_at, stored_place, stored_bounds, stored_hit_bounds, any_of}
-use Rattle.tree_state.specs.Whole.{WholeWorlds}
+use Rattle.tree_state.specs.declared.WorldNode.{WorldNode}
+use Rattle.tree_state.specs.Worlds.{place_of}
+use Rattle.tree_state.specs.Tree.{local_at, world_at, stored_place, stored_bounds, stored_hit_bounds, any_of}
 use Rattle.tree_laws.proofs.Ground.{Linked, low, slot_live, place_of_slot, ancestors_above}
 use Rattle.tree_steps.specs.Commit.{Work, changed_at, ancestors, handed_down, new_place, reworked, rework, rework_all}
 use Rattle.plan.specs.Plan.{Plan}
 use Rattle.plan.specs.Afresh.{placed_on, world_place, world_bounds, world_hit_bounds}
 use Rattle.agreement.proofs.worlds.Visits.{slot_at, Seen, Good}
-use Rattle.agreement.proofs.worlds.Turn.{place_now, bounds_now, hit_now, whole_worlds, place_stays, bounds_stay, hit_stays}
+use Rattle.agreement.proofs.worlds.Turn.{place_now, bounds_now, hit_now, whole_worlds, world_stays}
 
 -- the stored world records of a node are those worked out afresh
 pub record Fresh (t : Tree) (p : Plan) (x : ℕ) : Type 0 where
@@ -28,10 +29,8 @@ pub record Fresh (t : Tree) (p : Plan) (x : ℕ) : Type 0 where
   pub hit_bounds : stored_hit_bounds t x ≡ world_hit_bounds p x
 
 -- two trees store the same of x
-pub record Kept (old new : Tree) (x : ℕ) : Type 0 where
-  pub place : stored_place new x ≡ stored_place old x
-  pub bounds : stored_bounds new x ≡ stored_bounds old x
-  pub hit_bounds : stored_hit_bounds new x ≡ stored_hit_bounds old x
+abbrev pub Kept : Tree → Tree → ℕ → Type 0
+Kept old new x = world_at new x ≡ world_at old x
 
 -- what a rework does not touch
 pub record Frame (old new : Tree) : Type 0 where
@@ -41,20 +40,17 @@ pub record Frame (old new : Tree) : Type 0 where
   pub marks : new.marks ≡ old.marks
   pub pending : new.pending ≡ old.pending
 
-fresh_kept : (old new : Tree) (p : Plan) (x : ℕ) → Kept old new x → Fresh old p x → Fresh new p x
+pub fresh_kept : (old new : Tree) (p : Plan) (x : ℕ) → Kept old new x → Fresh old p x → Fresh new p x
 fresh_kept old new p x K F =
-    record { place = K.place ∙ F.place; bounds = K.bounds ∙ F.bounds; hit_bounds = K.hit_bounds ∙ F.hit_bounds }
-
-kept_on : (a b c : Tree) (x : ℕ) → Kept a b x → Kept b c x → Kept a c x
-kept_on a b c x K L =
-    record { place = L.place ∙ K.place; bounds = L.bounds ∙ K.bounds; hit_bounds = L.hit_bounds ∙ K.hit_bounds }
-
-pub kept_turn : (t : Tree) (x : ℕ) (w : Placed) (y : ℕ) → (y ≡ x → ⊥) → Kept t (reworked t x w) y
-kept_turn t x w y n = record { place = place_stays t x w y n; bounds = bounds_stay t x w y n; hit_bounds = hit_stays t x w y n }
+    record {
+      place = ap place_of K ∙ F.place;
+      bounds = ap (λ (v : WorldNode). v.bounds) K ∙ F.bounds;
+      hit_bounds = ap (λ (v : WorldNode). v.hit_bounds) K ∙ F.hit_bounds;
+    }
 
 -- what the tree has of the plan, and a rework leaves alone
 pub record Grounded (t : Tree) (p : Plan) : Type 0 where
-  pub worlds : WholeWorlds t.worlds
+  pub worlds : length t.worlds ≡ 256
   pub links : Linked t p.links
   pub local : (x : ℕ) → has x p.links ≡ true → local_at t x ≡ p.local x
 
@@ -102,7 +98,7 @@ module _ (t : Tree) (p : Plan) (G : Grounded t p) where
 -- ---- the fold
 pub record Ran (t : Tree) (p : Plan) (seen vs : List ℕ) (r : Tree) : Type 0 where
   pub frame : Frame t r
-  pub worlds : WholeWorlds r.worlds
+  pub worlds : length r.worlds ≡ 256
   pub kept : (y : ℕ) → 1 ≤ times y seen → Fresh r p y
   pub fresh : (y : ℕ) → 1 ≤ times y vs → Fresh r p y
   pub rest : (y : ℕ) → times y vs ≡ 0 → Kept t r y
@@ -129,7 +125,7 @@ module _ (p : Plan) (t u r : Tree) (x : ℕ) (seen vs : List ℕ) where
         fresh = λ y h. elim (ℕ_discrete y x) [ yes e ↦ R.kept y (rw e (omega (arith, hit x))) | no n ↦ R.fresh y (omega (arith, miss y x n)) ];
         rest = λ y h. elim (ℕ_discrete y x) [
           | yes e ↦ absurd (omega (arith, hit x, rw e at h))
-          | no n ↦ kept_on t u r y (same y n) (R.rest y (omega arith))
+          | no n ↦ R.rest y (omega arith) ∙ same y n
         ];
       }
 
@@ -143,7 +139,7 @@ ran p [] seen k G B D g =
       worlds = G.worlds;
       kept = D;
       fresh = λ y h. absurd (omega arith);
-      rest = λ y h. record { place = refl; bounds = refl; hit_bounds = refl };
+      rest = λ y h. refl;
     }
 ran p (i ∷ is) seen k G B D g =
     ran_on p t (rework k i).tree (rework_all k (i ∷ is)).tree x seen (map (slot_at t.links) is) frame now same
@@ -164,7 +160,7 @@ ran p (i ∷ is) seen k G B D g =
         (rw (above_place k.tree p.links G.links i g.0) (parent_right k.tree p G seen B D (above x p.links) (parent_above p.links G.links.once x live) g.1))
 
     same : (y : ℕ) → (y ≡ x → ⊥) → Kept k.tree (rework k i).tree y
-    same y n = kept_turn k.tree x (new_place k.tree i x) y n
+    same y n = world_stays k.tree x (new_place k.tree i x) y n
 
     frame : Frame k.tree (rework k i).tree
     frame = record { slots = refl; links = refl; locals = refl; marks = refl; pending = refl }
@@ -178,7 +174,7 @@ ran p (i ∷ is) seen k G B D g =
         }
 
     base : Base (rework k i).tree p
-    base y h c = elim (ℕ_discrete y x) [ yes e ↦ rw e now.place | no n ↦ (same y n).place ∙ B y h c ]
+    base y h c = elim (ℕ_discrete y x) [ yes e ↦ rw e now.place | no n ↦ ap place_of (same y n) ∙ B y h c ]
 
     done : (y : ℕ) → 1 ≤ times y (x ∷ seen) → Fresh (rework k i).tree p y
     done y h =

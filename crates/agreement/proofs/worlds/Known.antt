@@ -25,7 +25,7 @@ use Rattle.tree_steps.specs.SlotOrder.{put_in, slots_below}
 use Rattle.tree_steps.specs.Commit.{begun, starts_below, walk_all, visits_of, finished, work_for, commit_tree}
 use Rattle.plan.specs.Plan.{Plan, no_mark, Entries}
 use Rattle.plan.specs.Visits.{visits, enter, free_removed, committed}
-use Rattle.agreement.proofs.Same.{Same, Known, mark_of, entry_of}
+use Rattle.agreement.proofs.Same.{Same, Known, as_mark, mark_of, entry_of}
 use Rattle.agreement.proofs.worlds.Visits.{slot_at, Visited, visited}
 use Rattle.agreement.proofs.worlds.Keyed.{KeyedTree}
 use Rattle.agreement.proofs.worlds.Entries.{Entered}
@@ -65,7 +65,7 @@ module _ (t r : Tree) (p : Plan) (S : Same t p) (F : Finished t r) where
   local_after x h = rw F.locals (S.local x h)
 
   mark_after : (x : ℕ) → mark_of r x ≡ no_mark
-  mark_after x = rw (F.marked x, F.transform x, F.clip x)
+  mark_after x = ap as_mark (F.dirty_is x)
 
   same_after : (e : Entries) → ((x : ℕ) → has x p.links ≡ true → entry_of r x ≡ e.entry x) → take r.index.queued r.index.dirty ≡ [] → r.index.used ≡ e.used → reverse (take r.index.frees r.index.free) ≡ reverse e.removed ++ e.free
       → Same r (record { links = p.links; slots = p.slots; local = p.local; mark = λ x. no_mark; entries = free_removed e })
@@ -91,11 +91,11 @@ module _ (t : Tree) (f : Forest) (K : KeyedTree t f) (e : Entries) (N : Numbered
   free_after : reverse (take (work_of t.index).frees (work_of t.index).free) ≡ reverse e.removed ++ e.free
   unfolding work_of
   free_after =
-      let w = start ix.mark ix.kept ix.free ix.frees ix.backend.present ix.backend.boxes in
-      let C = keep_commit ix.aabb ix.prev ix.dirty ix.queued ix.used w K.counts K.index.mark K.index.free K.index.dirty in
-      let fits : (work ix.aabb ix.prev w (e.removed ++ N.rest)).frees ≤ length ix.free = rw (← N.queue_is) (omega (arith, C.free_fits, K.index.free)) in
+      let w = start ix in
+      let C = keep_commit ix.dirty ix.queued ix.used w K.counts K.index.entries K.index.free K.index.dirty in
+      let fits : (work w (e.removed ++ N.rest)).frees ≤ length ix.free = rw (← N.queue_is) (omega (arith, C.free_fits, K.index.free)) in
       rw N.queue_is
-      (freed_all ix.aabb ix.prev w e.removed N.rest (λ y. rw (← N.queue_is) (K.counts.once y)) N.removed N.others fits ∙ ap (λ (l : List ℕ). reverse e.removed ++ l) N.free_is)
+      (freed_all w e.removed N.rest (λ y. rw (← N.queue_is) (K.counts.once y)) N.removed N.others fits ∙ ap (λ (l : List ℕ). reverse e.removed ++ l) N.free_is)
 
 -- ---- a tree that needs no commit
 no_members : (l : List ℕ) → ((y : ℕ) → 1 ≤ times y l → ⊥) → l ≡ []
@@ -140,8 +140,8 @@ module _ (t : Tree) (p : Plan) (K : Known t p) (walks : Walks t p) (calm : needs
   nothing_queued : take t.index.queued t.index.dirty ≡ []
   nothing_queued = no_members (take t.index.queued t.index.dirty) (λ y h. empty y h)
     where
-      C : CountOf t.index.mark t.index.free t.index.frees t.index.dirty t.index.queued t.index.used
-      C = counted t.index.mark t.index.free t.index.frees t.index.dirty t.index.queued t.index.used K.whole.index.mark K.whole.index.free K.whole.index.dirty K.sound.index
+      C : CountOf t.index.entries t.index.free t.index.frees t.index.dirty t.index.queued t.index.used
+      C = counted t.index.entries t.index.free t.index.frees t.index.dirty t.index.queued t.index.used K.whole.index.entries K.whole.index.free K.whole.index.dirty K.sound.index
 
       empty : (y : ℕ) → 1 ≤ times y (take t.index.queued t.index.dirty) → ⊥
       empty y h = elim (dec_lt y 512) [ yes l ↦ never (K.queue y h) (none_removed y l) | no n ↦ omega (arith, C.low y (omega arith)) ]

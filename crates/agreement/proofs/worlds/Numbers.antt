@@ -11,7 +11,8 @@ use native.Mathlib.Decide.{ℕ_discrete}
 use borrow.Author.Tests.{eq-eqb, ne_eqb}
 use lib.ListN.{length, get_or, set, take}
 use lib.Seq.{take-suc, take-suc-set, get_or-set_same, get_or-set_other}
-use lib.Ieee.{Float}
+use Rattle.index_types.specs.declared.Slot.{Slot}
+use Rattle.index_types.specs.Slots.{no_entry, entry_in}
 use Rattle.geometry.specs.declared.rect.Rect.{Rect}
 use Rattle.geometry.specs.Rectangle.{rect_eq}
 use Rattle.index_types.specs.declared.Aabb2D.{Aabb2D}
@@ -22,21 +23,23 @@ use Rattle.tree_types.specs.Local.{rect_to_aabb}
 use Rattle.link_forest.specs.Forest.{Forest, has}
 use Rattle.index_entries.specs.declared.reads.Mark.{Mark}
 use Rattle.index_entries.specs.declared.reads.Mark.TheVariants as is
-use Rattle.index_entries.specs.Entries.{stands, queue_with, length_with, slot_for, used_for, unmarked, updated_mark}
+use Rattle.index_entries.specs.Entries.{stands, queue_with, length_with, slot_for, used_for, unmarked, updated_mark, updated_entry}
 use Rattle.index_entries.proofs.Keep.{queue_stays, queue_grows, queue_room, queue_of}
 use Rattle.index_types.specs.declared.Index.{Index}
-use Rattle.index_state.specs.Index.{slot_of, generation_of, insert_of, update_of, mark_at}
-use Rattle.tree_state.specs.declared.Keys.{Keys}
+use Rattle.index_state.specs.Index.{slot_of, insert_of, update_of, mark_at}
+use Rattle.tree_state.specs.declared.IndexKey.{IndexKey}
+use Rattle.tree_state.specs.declared.WorldNode.{WorldNode}
 use Rattle.tree_state.specs.declared.Tree.{Tree}
-use Rattle.tree_state.specs.Tree.{committed_at, key_at, stored_hit_bounds}
+use Rattle.tree_state.specs.Tree.{index_key, committed_at, key_at, stored_hit_bounds}
 use Rattle.tree_state.specs.Tree as tree
 use Rattle.tree_laws.proofs.Ground.{Linked, low, slot_live}
 use Rattle.tree_steps.specs.Commit.{Work, enter_keys, enter_index, new_place, new_hit_bounds, rework, rework_all}
 use Rattle.plan.specs.Plan.{Entry, number, Entries, slot_from, free_after, used_after}
 use Rattle.plan.specs.Visits.{take_entry, enter_as, enter}
 use Rattle.agreement.specs.Read.{entry_if}
+use Rattle.agreement.proofs.Same.{as_entry}
 use Rattle.agreement.proofs.worlds.Visits.{slot_at}
-use Rattle.agreement.proofs.worlds.Keyed.{Keyed, KeyedTree, Committed, entry, vacant}
+use Rattle.agreement.proofs.worlds.Keyed.{Keyed, KeyedTree, Committed, entry, entered, entered_here, entered_there, vacant}
 use Rattle.agreement.proofs.worlds.Entries.{Fitting, Inside, turn_keyed}
 use Rattle.agreement.proofs.worlds.Owned.{Owned, OwnedTree, owned_turn}
 
@@ -85,32 +88,32 @@ module _ (dirty : List ℕ) (n a : ℕ) (first rest : List ℕ) where
       go false s = let q = queue_grows dirty n a s in rw (q.0, q.1) (joins s)
 
 -- ---- the tree's entries are the plan's
-pub record Numbered (k : Keys) (ix : Index) (e : Entries) (f : Forest) : Type 0 where
-  pub entry_is : (x : ℕ) → has x f ≡ true → entry_if (get_or k.committed x false) (entry k x) ≡ e.entry x
+pub record Numbered (k : List IndexKey) (ix : Index) (e : Entries) (f : Forest) : Type 0 where
+  pub entry_is : (x : ℕ) → has x f ≡ true → as_entry (index_key k x) ≡ e.entry x
   pub used_is : ix.used ≡ e.used
   pub free_is : reverse (take ix.frees ix.free) ≡ e.free
   -- the queue: the removed entries, then others
   pub rest : List ℕ
   pub queue_is : take ix.queued ix.dirty ≡ e.removed ++ rest
-  pub removed : (y : ℕ) → 1 ≤ times y e.removed → 4 ≤ get_or ix.mark y 0
-  pub others : (y : ℕ) → 1 ≤ times y rest → (1 ≤ get_or ix.mark y 0) × (get_or ix.mark y 0 ≤ 3)
+  pub removed : (y : ℕ) → 1 ≤ times y e.removed → 4 ≤ (entry_in ix.entries y).mark
+  pub others : (y : ℕ) → 1 ≤ times y rest → (1 ≤ (entry_in ix.entries y).mark) × ((entry_in ix.entries y).mark ≤ 3)
 
 -- what the plan has of a committed node, and of another
 entry_of : (b c : Bool) (n : ℕ) (w : Entry) → entry_if b n ≡ w → b ≡ c → w ≡ entry_if c n
 entry_of b c n w e d = sym e ∙ ap (λ (z : Bool). entry_if z n) d
 
--- a mark set to one of an entry that is not removed
-module _ (mark : List ℕ) (a v : ℕ) (l : a < length mark) (v1 : 1 ≤ v) (v3 : v ≤ 3) where
-  set_others : (y : ℕ) → ((1 ≤ get_or mark y 0) × (get_or mark y 0 ≤ 3)) ⊎ (y ≡ a) → (1 ≤ get_or (set mark a v) y 0) × (get_or (set mark a v) y 0 ≤ 3)
+-- another entry at a slot, that is not removed
+module _ (entries : List Slot) (a : ℕ) (u : Slot) (l : a < length entries) (v1 : 1 ≤ u.mark) (v3 : u.mark ≤ 3) where
+  set_others : (y : ℕ) → ((1 ≤ (entry_in entries y).mark) × ((entry_in entries y).mark ≤ 3)) ⊎ (y ≡ a) → (1 ≤ (entry_in (set entries a u) y).mark) × ((entry_in (set entries a u) y).mark ≤ 3)
   set_others y w =
       elim (ℕ_discrete y a) [
-        | yes e ↦ rw (e, get_or-set_same mark a v 0 l) (v1, v3)
-        | no n ↦ rw (get_or-set_other mark a y v 0 n) (elim w [ inl h ↦ h | inr e ↦ absurd (n e) ])
+        | yes e ↦ rw (e, get_or-set_same entries a u no_entry l) (v1, v3)
+        | no n ↦ rw (get_or-set_other entries a y u no_entry n) (elim w [ inl h ↦ h | inr e ↦ absurd (n e) ])
       ]
 
-  set_removed : get_or mark a 0 ≤ 3 → (y : ℕ) → 4 ≤ get_or mark y 0 → 4 ≤ get_or (set mark a v) y 0
+  set_removed : (entry_in entries a).mark ≤ 3 → (y : ℕ) → 4 ≤ (entry_in entries y).mark → 4 ≤ (entry_in (set entries a u) y).mark
   set_removed h y g =
-      elim (ℕ_discrete y a) [ yes e ↦ absurd (omega (arith, rw e at g)) | no n ↦ rw (get_or-set_other mark a y v 0 n) g ]
+      elim (ℕ_discrete y a) [ yes e ↦ absurd (omega (arith, rw e at g)) | no n ↦ rw (get_or-set_other entries a y u no_entry n) g ]
 
 updated_low : (m : Mark) → 1 ≤ updated_mark m
 updated_low is.Unmarked = omega arith
@@ -125,10 +128,10 @@ updated_high is.Updated = omega arith
 updated_high is.Removed = omega arith
 
 -- ---- one turn
-module _ (k : Keys) (ix : Index) (hits : List Float) (ids : ℕ → NodeId) (f : Forest) (below : (y : ℕ) → has y f ≡ true → y < 256) (K : Keyed k ix hits f) (O : Owned k ix ids f) (e : Entries) (N : Numbered k ix e f) (x : ℕ) (h : has x f ≡ true) (b : Aabb2D) where
+module _ (k : List IndexKey) (ix : Index) (s : List WorldNode) (ids : ℕ → NodeId) (f : Forest) (below : (y : ℕ) → has y f ≡ true → y < 256) (K : Keyed k ix s f) (O : Owned k ix ids f) (e : Entries) (N : Numbered k ix e f) (x : ℕ) (h : has x f ≡ true) (b : Aabb2D) where
   room : (a : ℕ) → a < 512 → stands a ix.dirty ix.queued ≡ false → ix.queued < length ix.dirty
   room a l s =
-      let q = queue_room ix.dirty ix.queued (queue_of ix.mark ix.free ix.frees ix.dirty ix.queued ix.used K.counts K.index.mark) K.index.dirty a l s in
+      let q = queue_room ix.dirty ix.queued (queue_of ix.entries ix.free ix.frees ix.dirty ix.queued ix.used K.counts K.index.entries) K.index.dirty a l s in
       omega (arith, K.index.dirty)
 
   update_numbered : Committed k x → Numbered k (update_of ix (entry k x) b) e f
@@ -139,18 +142,18 @@ module _ (k : Keys) (ix : Index) (hits : List Float) (ids : ℕ → NodeId) (f :
         free_is = N.free_is;
         rest = Q.behind;
         queue_is = Q.is;
-        removed = λ y g. set_removed ix.mark a v fits (updated_low (mark_at ix a)) (updated_high (mark_at ix a)) (O.owns x h c).kept y (N.removed y g);
-        others = λ y g. set_others ix.mark a v fits (updated_low (mark_at ix a)) (updated_high (mark_at ix a)) y (elim (Q.members y g) [ inl u ↦ inl (N.others y u) | inr u ↦ inr u ]);
+        removed = λ y g. set_removed ix.entries a u fits (updated_low (mark_at ix a)) (updated_high (mark_at ix a)) (O.owns x h c).kept y (N.removed y g);
+        others = λ y g. set_others ix.entries a u fits (updated_low (mark_at ix a)) (updated_high (mark_at ix a)) y (elim (Q.members y g) [ inl u ↦ inl (N.others y u) | inr u ↦ inr u ]);
       }
     where
       a : ℕ
       a = entry k x
 
-      v : ℕ
-      v = updated_mark (mark_at ix a)
+      u : Slot
+      u = updated_entry (entry_in ix.entries a) b
 
-      fits : a < length ix.mark
-      fits = omega (arith, (K.held x h c).0, K.index.mark)
+      fits : a < length ix.entries
+      fits = omega (arith, (K.held x h c).0, K.index.entries)
 
       any : (q : Bool) → Longer ix.dirty ix.queued a e.removed N.rest (cond q (queue_with ix.dirty ix.queued a) ix.dirty) (cond q (length_with ix.dirty ix.queued a) ix.queued)
       any true = longer ix.dirty ix.queued a e.removed N.rest N.queue_is (room a (K.held x h c).0)
@@ -159,36 +162,28 @@ module _ (k : Keys) (ix : Index) (hits : List Float) (ids : ℕ → NodeId) (f :
       Q : Longer ix.dirty ix.queued a e.removed N.rest (cond (unmarked (mark_at ix a)) (queue_with ix.dirty ix.queued a) ix.dirty) (cond (unmarked (mark_at ix a)) (length_with ix.dirty ix.queued a) ix.queued)
       Q = any (unmarked (mark_at ix a))
 
-  module _ (c : get_or k.committed x false ≡ false) (fits : slot_of ix < 512) (free : get_or ix.mark (slot_of ix) 0 ≡ 0) where
-    abbrev keys : Keys
-    keys =
-        record {
-          committed = set k.committed x true;
-          slot = set k.slot x (slot_of ix);
-          generation = set k.generation x (generation_of ix);
-        }
-
+  module _ (c : (index_key k x).committed ≡ false) (fits : slot_of ix < 512) (free : (entry_in ix.entries (slot_of ix)).mark ≡ 0) where
     T : (slot_of ix ≡ slot_from e.free e.used) × (used_for ix.frees ix.used ≡ used_after e.free e.used) × (reverse (take (ix.frees - 1) ix.free) ≡ free_after e.free)
     T =
         let F = taken ix.free ix.used (freed ix.free ix.frees (omega (arith, K.counts.free_fits, K.index.free))) in
         (F.0 ∙ ap₂ slot_from N.free_is N.used_is, F.1 ∙ ap₂ used_after N.free_is N.used_is, F.2 ∙ ap free_after N.free_is)
 
-    insert_numbered : Numbered keys (insert_of ix b (ids x)) (take_entry e x) f
+    insert_numbered : Numbered (entered k ix x) (insert_of ix b (ids x)) (take_entry e x) f
     insert_numbered = record {
       entry_is = λ y g. elim (ℕ_discrete y x) [
-        | yes q ↦ rw (q, get_or-set_same k.committed x true false (omega (arith, below x h, K.keys.committed)), get_or-set_same k.slot x (slot_of ix) 0 (omega (arith, below x h, K.keys.slot)), eq-eqb x x refl) (ap number T.0)
-        | no n ↦ rw (get_or-set_other k.committed x y true false n, get_or-set_other k.slot x y (slot_of ix) 0 n, ne_eqb y x n) (N.entry_is y g)
+        | yes q ↦ rw (q, eq-eqb x x refl) (ap as_entry (entered_here k ix x K.keys (below x h)) ∙ ap number T.0)
+        | no n ↦ rw (ne_eqb y x n) (ap as_entry (entered_there k ix x y n) ∙ N.entry_is y g)
       ];
       used_is = T.1;
       free_is = T.2;
       rest = Q.behind;
       queue_is = Q.is;
-      removed = λ y g. set_removed ix.mark (slot_of ix) 2 inside (omega arith) (omega arith) (omega arith) y (N.removed y g);
-      others = λ y g. set_others ix.mark (slot_of ix) 2 inside (omega arith) (omega arith) y (elim (Q.members y g) [ inl u ↦ inl (N.others y u) | inr u ↦ inr u ]);
+      removed = λ y g. set_removed ix.entries (slot_of ix) _ inside (omega arith) (omega arith) (rw free (omega arith)) y (N.removed y g);
+      others = λ y g. set_others ix.entries (slot_of ix) _ inside (omega arith) (omega arith) y (elim (Q.members y g) [ inl u ↦ inl (N.others y u) | inr u ↦ inr u ]);
     }
       where
-        inside : slot_of ix < length ix.mark
-        inside = omega (arith, K.index.mark)
+        inside : slot_of ix < length ix.entries
+        inside = omega (arith, K.index.entries)
 
         Q : Longer ix.dirty ix.queued (slot_of ix) e.removed N.rest (queue_with ix.dirty ix.queued (slot_of ix)) (length_with ix.dirty ix.queued (slot_of ix))
         Q = longer ix.dirty ix.queued (slot_of ix) e.removed N.rest N.queue_is (room (slot_of ix) fits)
@@ -201,12 +196,12 @@ module _ (t : Tree) (f : Forest) (below : (y : ℕ) → has y f ≡ true → y <
   numbered_turn : (b c : Bool) → committed_at t x ≡ b → (b ≡ false → slot_of t.index < 512) → Numbered (enter_keys b t x) (enter_index b c t x (rect_to_aabb r)) (enter_as (e.entry x) e x) f
   numbered_turn false c d fits =
       rw (entry_of (committed_at t x) false (key_at t x).0 (e.entry x) (N.entry_is x h) d)
-      (insert_numbered t.keys t.index t.worlds.hit_bounds (tree.id_at t) f below K O e N x h (rect_to_aabb r) d (fits refl)
-      (vacant t.keys t.index t.worlds.hit_bounds f below K x h r (tree.id_at t x) d (fits refl)))
+      (insert_numbered t.keys t.index t.worlds (tree.id_at t) f below K O e N x h (rect_to_aabb r) d (fits refl)
+      (vacant t.keys t.index t.worlds f below K x h (tree.world_at t x) (tree.id_at t x) d (fits refl)))
   numbered_turn true true d fits = rw (entry_of (committed_at t x) true (key_at t x).0 (e.entry x) (N.entry_is x h) d) N
   numbered_turn true false d fits =
       rw (entry_of (committed_at t x) true (key_at t x).0 (e.entry x) (N.entry_is x h) d)
-      (update_numbered t.keys t.index t.worlds.hit_bounds (tree.id_at t) f below K O e N x h (rect_to_aabb r) d)
+      (update_numbered t.keys t.index t.worlds (tree.id_at t) f below K O e N x h (rect_to_aabb r) d)
 
 -- ---- the fold
 pub numbered_ran : (f : Forest) (is : List ℕ) (k : Work) (e : Entries) → Linked k.tree f → KeyedTree k.tree f → Inside k.tree.links is → Fitting k is → OwnedTree k.tree f

@@ -121,8 +121,8 @@ in_keys t (y ∷ l) x h c =
 
 -- ---- a sound tree has at most 256 entries
 module _ (t : Tree) (f : Forest) (W : Whole t) (S : SoundTree t) (L : Linked t f) where
-  C : CountOf t.index.mark t.index.free t.index.frees t.index.dirty t.index.queued t.index.used
-  C = counted t.index.mark t.index.free t.index.frees t.index.dirty t.index.queued t.index.used W.index.mark W.index.free W.index.dirty S.index
+  C : CountOf t.index.entries t.index.free t.index.frees t.index.dirty t.index.queued t.index.used
+  C = counted t.index.entries t.index.free t.index.frees t.index.dirty t.index.queued t.index.used W.index.entries W.index.free W.index.dirty S.index
 
   listed : (x : ℕ) → is_live t x ≡ true → 1 ≤ times x (live_slots t)
   listed x h = omega (arith, rep_times L.rep x, has_count x f (sym (live_has t f L x) ∙ h))
@@ -176,14 +176,14 @@ module _ (t : Tree) (x n : ℕ) (h : t.index.used + suc n ≤ t.index.frees + 51
   left false c r =
       let ix = t.index in
       elim (ℕ_discrete ix.frees 0) [
-        | yes e ↦ omega (arith, used_unused ix.generation ix.free ix.frees ix.used e)
-        | no m ↦ omega (arith, used_last ix.generation ix.free ix.frees ix.used m)
+        | yes e ↦ omega (arith, used_unused ix.entries ix.free ix.frees ix.used e)
+        | no m ↦ omega (arith, used_last ix.entries ix.free ix.frees ix.used m)
       ]
 
   slot_left : (f : Forest) → KeyedTree t f → slot_of t.index < 512
   slot_left f K =
       let ix = t.index in
-      slot_fits ix.mark ix.free ix.frees ix.dirty ix.queued ix.used K.counts K.index.mark K.index.free K.index.dirty (λ e. omega arith)
+      slot_fits ix.entries ix.free ix.frees ix.dirty ix.queued ix.used K.counts K.index.entries K.index.free K.index.dirty (λ e. omega arith)
 
 fitting : (f : Forest) (is : List ℕ) (k : Work) → Linked k.tree f → KeyedTree k.tree f → Inside k.tree.links is → k.tree.index.used + length is ≤ k.tree.index.frees + 512
     → Fitting k is

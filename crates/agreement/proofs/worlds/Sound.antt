@@ -1,5 +1,5 @@
 -- An accepted commit keeps the tree sound.
-use mathlib.Core.Path.{◌≡◌, refl, sym, ◌∙◌, subst}
+use mathlib.Core.Path.{◌≡◌, refl, sym, ap, ◌∙◌, subst}
 use mathlib.Core.Logic.{◌⊎◌, inl, inr}
 use mathlib.Core.Bool.{Bool, true, false}
 use mathlib.Core.List.{List, [], ◌∷◌}
@@ -7,20 +7,24 @@ use Prim.Native.Nat.{ℕ, zero, suc, ◌≤◌, ◌<◌}
 use native.Mathlib.Omega.{arith}
 use native.Mathlib.Decide.{dec_lt}
 use borrow.Author.Tests.{lt-leb}
-use lib.ListN.{length, get_or, take, replicate}
+use lib.ListN.{length, take, replicate}
 use lib.Seq.{length-take-le}
+use Rattle.index_types.specs.Slots.{entry_in}
 use Rattle.counting.proofs.Counting.{tally_small}
 use Rattle.link_forest.specs.Forest.{Forest, has}
 use Rattle.link_forest.proofs.Bools.{never}
 use Rattle.index_sound.specs.Sound.{SoundOf}
 use Rattle.index_sound.proofs.Exact.{worded}
 use Rattle.index_commit.specs.Commit.{start}
+use Rattle.index_commit.proofs.Loop.{commit_bare}
 use Rattle.index_commit.proofs.Keep.{unmarked, keep_commit, commit_whole}
+use Rattle.index_types.specs.declared.Slot.{Slot}
 use Rattle.index_types.specs.declared.Index.{Index}
 use Rattle.index_state.specs.Index.{work_of, commit_of}
 use Rattle.index_state.proofs.Soundness.{Counts}
+use Rattle.tree_state.specs.declared.Dirty.{Dirty}
 use Rattle.tree_state.specs.declared.Tree.{Tree}
-use Rattle.tree_state.specs.Tree.{live_slots, local_at, marked_at, transform_changed_at, clip_changed_at, committed_at, key_at, entry_mark, is_removed, needs_commit}
+use Rattle.tree_state.specs.Tree.{no_dirty, live_slots, local_at, dirty, committed_at, key_at, entry_mark, is_removed, needs_commit}
 use Rattle.tree_state.specs.Sound.{SoundTree, Owns, Live, count_of, count_below, removed_entries}
 use Rattle.tree_state.specs.Whole.{WholeIndex}
 use Rattle.tree_laws.proofs.Ground.{live_has}
@@ -45,10 +49,10 @@ unfolding count_of
 count_few p [] = omega arith
 count_few p (x ∷ l) = omega (arith, count_few p l, tally_small (p x))
 
-pub no_mark : (n x : ℕ) → get_or (replicate n false) x false ≡ false
-no_mark zero x = refl
-no_mark (suc n) zero = refl
-no_mark (suc n) (suc x) = no_mark n x
+pub clean : (n x : ℕ) → dirty (replicate n no_dirty) x ≡ no_dirty
+clean zero x = refl
+clean (suc n) zero = refl
+clean (suc n) (suc x) = clean n x
 
 -- ---- a tree with the slots, links and local records of a sound one, nothing pending, no mark, and its entries in order
 pub record Finished (t r : Tree) : Type 0 where
@@ -56,14 +60,12 @@ pub record Finished (t r : Tree) : Type 0 where
   pub links : r.links ≡ t.links
   pub locals : r.locals ≡ t.locals
   pub pending : r.pending.count ≡ 0
-  pub marked : (x : ℕ) → marked_at r x ≡ false
-  pub transform : (x : ℕ) → transform_changed_at r x ≡ false
-  pub clip : (x : ℕ) → clip_changed_at r x ≡ false
+  pub dirty_is : (x : ℕ) → dirty r.marks x ≡ no_dirty
   pub committed : (x : ℕ) → Live t x → committed_at r x ≡ true
   pub owns : (x : ℕ) → Live t x → Owns r x (key_at r x).0
   pub marks : (k : ℕ) → entry_mark r k < 2
   pub owner : (k : ℕ) → k < 512 → (entry_mark r k ≡ 0 → ⊥) → (x : ℕ) × Live t x × ((key_at r x).0 ≡ k)
-  pub index : SoundOf r.index.mark r.index.free r.index.frees r.index.dirty r.index.queued r.index.used
+  pub index : SoundOf r.index.entries r.index.free r.index.frees r.index.dirty r.index.queued r.index.used
 
 module _ (t r : Tree) (w : length t.links.order ≡ 256) (S : SoundTree t) (F : Finished t r) where
   live_same : (x : ℕ) → Live r x → Live t x
@@ -94,8 +96,8 @@ module _ (t r : Tree) (w : length t.links.order ≡ 256) (S : SoundTree t) (F : 
         clips = λ x h. rw F.locals (S.clips x (live_same x h));
         committed = λ x h c. F.owns x (live_same x h);
         uncommitted = λ x h c. never (F.committed x (live_same x h)) c;
-        transform_marked = λ x h c. never c (F.transform x);
-        clip_marked = λ x h c. never c (F.clip x);
+        transform_marked = λ x h c. never c (ap (λ (d : Dirty). d.transform) (F.dirty_is x));
+        clip_marked = λ x h c. never c (ap (λ (d : Dirty). d.clip) (F.dirty_is x));
         pending = omega (arith, F.pending);
         few = omega (arith, none_removed, count_few (committed_at r) (live_slots r), live_few);
         owned = λ k l n e.
@@ -107,20 +109,20 @@ module _ (t r : Tree) (w : length t.links.order ≡ 256) (S : SoundTree t) (F : 
 -- ---- the marks that the index's commit leaves
 module _ (ix : Index) (W : WholeIndex ix) (C : Counts ix) where
   abbrev before : ℕ → ℕ
-  before e = get_or ix.mark e 0
+  before e = (entry_in ix.entries e).mark
 
   abbrev after : ℕ → ℕ
-  after e = get_or (commit_of ix (work_of ix)).mark e 0
+  after e = (entry_in (commit_of ix (work_of ix)).entries e).mark
 
   pub after_low : (e : ℕ) → after e < 2
   unfolding work_of
   after_low e =
-      unmarked ix.aabb ix.prev ix.dirty ix.queued ix.used (start ix.mark ix.kept ix.free ix.frees ix.backend.present ix.backend.boxes) C W.mark W.free W.dirty e
+      unmarked ix.dirty ix.queued ix.used (start ix) C W.entries W.free W.dirty e
 
   comes : (e : ℕ) → Comes (before e) (after e)
   unfolding work_of
   comes e =
-      comes_work ix.aabb ix.prev (start ix.mark ix.kept ix.free ix.frees ix.backend.present ix.backend.boxes) (take ix.queued ix.dirty) e
+      comes_work (start ix) (take ix.queued ix.dirty) e
 
   -- an entry that is not removed stays, without a mark
   pub after_stays : (e : ℕ) → (before e ≡ 0 → ⊥) → before e ≤ 3 → after e ≡ 1
@@ -134,14 +136,14 @@ module _ (ix : Index) (W : WholeIndex ix) (C : Counts ix) where
       gone (inl l) = omega (arith, after_low e)
       gone (inr z) = n z
 
-  pub after_sound : let r = commit_of ix (work_of ix) in SoundOf r.mark r.free r.frees r.dirty r.queued r.used
+  pub after_sound : let r = commit_of ix (work_of ix) in SoundOf r.entries r.free r.frees r.dirty r.queued r.used
   unfolding work_of
   after_sound =
-      let w = start ix.mark ix.kept ix.free ix.frees ix.backend.present ix.backend.boxes in
+      let w = start ix in
       let r = commit_of ix (work_of ix) in
-      let l = commit_whole ix.aabb ix.prev ix.dirty ix.queued ix.used w C W.mark W.free W.dirty in
-      worded r.mark r.free r.frees r.dirty r.queued r.used l.0 l.1 W.dirty
-      (keep_commit ix.aabb ix.prev ix.dirty ix.queued ix.used w C W.mark W.free W.dirty)
+      let l = commit_whole ix.dirty ix.queued ix.used w C W.entries W.free W.dirty in
+      worded r.entries r.free r.frees r.dirty r.queued r.used l.0 l.1 W.dirty
+      (keep_commit ix.dirty ix.queued ix.used w C W.entries W.free W.dirty)
 
 -- ---- the whole commit
 module _ (t : Tree) (p : Plan) (K : Known t p) (E : Entered t p.links) (Vs : Visited t p.links) where
@@ -158,9 +160,7 @@ module _ (t : Tree) (p : Plan) (K : Known t p) (E : Entered t p.links) (Vs : Vis
     links = frame.links;
     locals = frame.locals;
     pending = refl;
-    marked = no_mark 256;
-    transform = no_mark 256;
-    clip = no_mark 256;
+    dirty_is = clean 256;
     committed = λ x h. (fresh_done t p K E Vs x (there x h)).1;
     owns = owns;
     marks = after_low d.index Y.index Y.counts;
@@ -186,12 +186,13 @@ module _ (t : Tree) (p : Plan) (K : Known t p) (E : Entered t p.links) (Vs : Vis
           let c = (fresh_done t p K E Vs x g).1 in
           let H = Y.held x g c in
           let B = owned_done.owns x g c in
+          let stays = commit_bare (done t p K E Vs).index (key_at (done t p K E Vs) x).0 in
           record {
             slot = refl;
             is_entry = H.0;
             unmarked = after_stays (done t p K E Vs).index Y.index Y.counts (key_at (done t p K E Vs) x).0 H.1 B.kept;
-            under_key = B.under_key;
-            carries = B.carries;
+            under_key = ap (λ (s : Slot). s.generation) stays ∙ B.under_key;
+            carries = ap (λ (s : Slot). s.payload) stays ∙ B.carries;
           }
 
       owner : (k : ℕ) → k < 512 → (entry_mark (finished (done t p K E Vs)) k ≡ 0 → ⊥) → (x : ℕ) × Live t x × ((key_at (finished (done t p K E Vs)) x).0 ≡ k)

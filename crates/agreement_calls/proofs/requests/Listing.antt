@@ -7,11 +7,11 @@ use native.Mathlib.Omega.{arith}
 use native.Mathlib.Decide.{ℕ_discrete}
 use borrow.Author.Tests.{eqb-true, eq-eqb, ne_eqb}
 use lib.Dec.{eqb}
+use Rattle.index_types.specs.Slots.{entry_in}
 use Rattle.geometry.specs.declared.point.Point.{Point}
 use Rattle.geometry.specs.declared.rect.Rect.{Rect}
 use Rattle.index_types.specs.declared.Aabb2D.{Aabb2D}
 use Rattle.index_types.specs.Boxes.{contains_point, overlaps}
-use Rattle.index_types.specs.flat_tables.Tables as cell
 use Rattle.tree_types.specs.declared.NodeFlags.{NodeFlags}
 use Rattle.tree_types.specs.Local.{has_all, rect_to_aabb}
 use Rattle.link_forest.specs.Forest.{Forest, has}
@@ -34,7 +34,7 @@ module _ (t : Tree) (p : Plan) (K : Known t p) (Q : needs_commit p ≡ false) wh
 
   -- the node that an entry carries
   abbrev carried_by : ℕ → ℕ
-  carried_by k = (cell.id_at t.index.payload k).0
+  carried_by k = (entry_in t.index.entries k).payload.0
 
   -- the nodes with one entry number
   abbrev pub numbered : ℕ → List ℕ

@@ -8,15 +8,14 @@ use native.Mathlib.Omega.{arith}
 use native.Mathlib.Decide.{dec_lt}
 use borrow.Author.Tests.{ne_eqb, lt-leb}
 use lib.Dec.{eqb}
-use lib.ListN.{length, take, get_or}
+use lib.ListN.{length, take}
+use Rattle.index_types.specs.Slots.{entry_in, stored_in}
 use Rattle.numbers.proofs.Bools.{or_true}
 use Rattle.counting.specs.Times.{times}
 use Rattle.counting.proofs.Kit.{contra}
 use Rattle.counting.proofs.Words.{seen}
 use Rattle.index_types.specs.declared.Aabb2D.{Aabb2D}
 use Rattle.index_types.specs.declared.NodeId.{NodeId}
-use Rattle.index_types.specs.flat_tables.Tables as cell
-use Rattle.index_types.specs.flat_tables.Tables.{box_at}
 use Rattle.tree_types.specs.Local.{rect_to_aabb}
 use Rattle.link_forest.specs.Forest.{Forest, pre, has, above}
 use Rattle.link_forest.proofs.Counting.{count_pre, count_has, has_count, above_has}
@@ -109,7 +108,7 @@ module _ (t : Tree) (p : Plan) (K : Known t p) (quiet : needs_commit p ≡ false
   entry x h = sym (K.same.entry x h) ∙ ap (λ (b : Bool). entry_if b (key_at t x).0) (committed x h)
 
   -- an entry carries its owner's slot
-  pub carried : (x : ℕ) → has x f ≡ true → (cell.id_at t.index.payload (key_at t x).0).0 ≡ x
+  pub carried : (x : ℕ) → has x f ≡ true → (entry_in t.index.entries (key_at t x).0).payload.0 ≡ x
   carried x h = ap (λ (i : NodeId). i.0) (owns x h).carries
 
   -- ---- every entry
@@ -149,7 +148,7 @@ module _ (t : Tree) (p : Plan) (K : Known t p) (quiet : needs_commit p ≡ false
   -- ---- which entries a query visits
 
   abbrev pub visit : (Aabb2D → Bool) → ℕ → Bool
-  visit q k = not (eqb (get_or t.index.backend.present k 0) 0) && (not (eqb (get_or t.index.mark k 0) 0) && q (box_at t.index.backend.boxes k))
+  visit q k = not (eqb (stored_in t.index.backend.entries k).present 0) && (not (eqb (entry_in t.index.entries k).mark 0) && q (stored_in t.index.backend.entries k).aabb)
 
   pub visit_empty : (q : Aabb2D → Bool) (k : ℕ) → entry_mark t k ≡ 0 → visit q k ≡ false
   visit_empty q k z = rw (K.backed.none k, z)
@@ -159,4 +158,4 @@ module _ (t : Tree) (p : Plan) (K : Known t p) (quiet : needs_commit p ≡ false
       let k = (key_at t x).0 in
       let m = (owns x h).unmarked in
       let B = K.backed.own k m in
-      rw (ne_eqb (get_or t.index.backend.present k 0) 0 B.0, m, B.1) (F (box_at t.index.aabb k) (rect_to_aabb (world_hit_bounds p x)) (boxed x h).entry)
+      rw (ne_eqb (stored_in t.index.backend.entries k).present 0 B.0, m, B.1) (F (entry_in t.index.entries k).aabb (rect_to_aabb (world_hit_bounds p x)) (boxed x h).entry)

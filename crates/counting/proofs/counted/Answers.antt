@@ -1,7 +1,6 @@
 -- `counted` by the laws of its loop's steps (`Counts`).
-use Rattle.std.proofs.Common.{arith, refl, ◌≡◌, ◌≤◌, ◌<◌, ℕ, List, get_or, take, length}
+use Rattle.std.proofs.Common.{arith, ◌≡◌, ◌≤◌, ◌<◌, ℕ, List, get_or, take, length}
 use Rattle.std.proofs.lemmas.List.{get_or-take, length-take-le}
-use Rattle.std.proofs.lemmas.Option.{same_Some}
 use Rattle.counting.proofs.Counts.{zeros, too_many, none, outside, twice, next, ends}
 use Rattle.counting.proofs.counted.Goals as goal
 use Rattle.counting.proofs.counted.Goals.{then-x-via-then-x, then-x-via-else-x+then-counts-x-ne0}
@@ -44,8 +43,3 @@ ended g c = let i = length-take-le c.args.n c.args.list.now (omega (arith, c.tol
 pub returns-clause-known : goal.returns-clause-known
 returns-clause-known g c =
     (ends g.row.N c.args.list.now c.args.n c.told-list c.loop-slot.counts c.loop-slot.slot-index c.loop-slot.invariant (ended g c)).0
-
-pub returns-clause-counts : goal.returns-clause-counts
-returns-clause-counts g c counts e =
-    let a = ends g.row.N c.args.list.now c.args.n c.told-list c.loop-slot.counts c.loop-slot.slot-index c.loop-slot.invariant (ended g c) in
-    rw (← same_Some c.loop-slot.counts counts e) (a.1 refl)

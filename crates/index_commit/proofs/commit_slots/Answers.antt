@@ -11,7 +11,7 @@ loop-i-init c =
     let A = c.args in
     let P = c.requires in
     let ix = A.index.now in
-    let C = counted ix.mark ix.free ix.frees ix.dirty ix.queued P.sound.0 P.shape.mark_whole P.shape.free_whole P.shape.dirty_whole P.sound.1 in
+    let C = counted ix.entries ix.free ix.frees ix.dirty ix.queued P.sound.0 P.shape.entries_whole P.shape.free_whole P.shape.dirty_whole P.sound.1 in
     record {
       i_fits = omega arith;
       q_fits = C.queue_fits;
@@ -34,7 +34,7 @@ commit_slot-change-requires c =
     let A = c.args in
     let P = c.requires in
     let ix = A.index.now in
-    let C = counted ix.mark ix.free ix.frees ix.dirty ix.queued P.sound.0 P.shape.mark_whole P.shape.free_whole P.shape.dirty_whole P.sound.1 in
+    let C = counted ix.entries ix.free ix.frees ix.dirty ix.queued P.sound.0 P.shape.entries_whole P.shape.free_whole P.shape.dirty_whole P.sound.1 in
     let L = c.loop-i in
     commits ix A.added.now A.removed.now A.old.now A.new.now P.sound.0 P.shape C L.index L.added L.removed L.old L.new L.damage L.i L.invariant c.loop-i-test.true
 
@@ -43,7 +43,7 @@ loop-i-preserved c =
     let A = c.args in
     let P = c.requires in
     let ix = A.index.now in
-    let C = counted ix.mark ix.free ix.frees ix.dirty ix.queued P.sound.0 P.shape.mark_whole P.shape.free_whole P.shape.dirty_whole P.sound.1 in
+    let C = counted ix.entries ix.free ix.frees ix.dirty ix.queued P.sound.0 P.shape.entries_whole P.shape.free_whole P.shape.dirty_whole P.sound.1 in
     let L = c.loop-i in
     next ix A.added.now A.removed.now A.old.now A.new.now P.sound.0 P.shape C L.index L.added L.removed L.old L.new L.damage L.i L.invariant c.loop-i-test.true
     _ c.commit_slot-change.result _ _ _ _ _ c.commit_slot-change.ensures.index c.commit_slot-change.ensures.change

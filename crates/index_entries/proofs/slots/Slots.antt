@@ -1,6 +1,8 @@
 -- The next generation; and the slot that an insert takes, by cases of the free list.
 use Rattle.std.proofs.Common.{◌≡◌, ℕ, ◌+◌, ◌-◌, ◌%◌, ◌^◌, ◌<◌, List, get_or, sym, refl, ◌∙◌, mod-eq_of_lt, arith, eq-eqb, ne_eqb}
 use native.Mathlib.Decide.{ℕ_discrete}
+use Rattle.index_types.specs.declared.Slot.{Slot}
+use Rattle.index_types.specs.Slots.{entry_in}
 use Rattle.index_entries.specs.slots.Slots.{next_generation, slot_for, used_for, generation_for}
 
 -- "goes up by one", but for the last
@@ -31,7 +33,7 @@ module _ (g w : ℕ) (fits : g < 2 ^ 32) (wraps : w ≡ (g + 1) % 2 ^ 32) where
   pub added_next : (w ≡ 0 → ⊥) → w ≡ next_generation g
   added_next f = elim (ℕ_discrete g 4294967295) [ yes e ↦ absurd (f (wraps ∙ rw e refl)) | no n ↦ unwrapped n ∙ sym (one_up g n) ]
 
-module _ (generation free : List ℕ) (frees used : ℕ) where
+module _ (entries : List Slot) (free : List ℕ) (frees used : ℕ) where
   pub slot_unused : frees ≡ 0 → slot_for free frees used ≡ used
   unfolding slot_for
   slot_unused e = rw (slot_for, eq-eqb frees 0 e)
@@ -48,10 +50,10 @@ module _ (generation free : List ℕ) (frees used : ℕ) where
   unfolding used_for
   used_last n = rw (used_for, ne_eqb frees 0 n)
 
-  pub generation_unused : frees ≡ 0 → generation_for generation free frees used ≡ 1
+  pub generation_unused : frees ≡ 0 → generation_for entries free frees used ≡ 1
   unfolding generation_for
   generation_unused e = rw (generation_for, eq-eqb frees 0 e)
 
-  pub generation_next : (frees ≡ 0 → ⊥) → generation_for generation free frees used ≡ next_generation (get_or generation (get_or free (frees - 1) 0) 0)
+  pub generation_next : (frees ≡ 0 → ⊥) → generation_for entries free frees used ≡ next_generation (entry_in entries (get_or free (frees - 1) 0)).generation
   unfolding generation_for
   generation_next n = rw (generation_for, ne_eqb frees 0 n, slot_last n)

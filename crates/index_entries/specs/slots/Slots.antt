@@ -1,6 +1,8 @@
 -- The slots of the index: generations, the queue of dirty slots, and the slot that an insert takes (document 01, module 5).
 use Rattle.std.specs.Prelude.{ℕ, ◌+◌, ◌-◌, Bool, cond, List, take, ◌==◌, nat_lt, slice_index, slice_set}
 use Rattle.counting.specs.Times.{times}
+use Rattle.index_types.specs.declared.Slot.{Slot}
+use Rattle.index_types.specs.Slots.{entry_in}
 
 -- "Its generation goes up by one past 4,294,967,295 to 1, never 0."
 unfoldable pub next_generation : ℕ → ℕ
@@ -25,5 +27,5 @@ slot_for free frees used = cond (frees == 0) used (slice_index free (frees - 1))
 unfoldable pub used_for : ℕ → ℕ → ℕ
 used_for frees used = cond (frees == 0) (used + 1) used
 
-unfoldable pub generation_for : List ℕ → List ℕ → ℕ → ℕ → ℕ
-generation_for generation free frees used = cond (frees == 0) 1 (next_generation (slice_index generation (slot_for free frees used)))
+unfoldable pub generation_for : List Slot → List ℕ → ℕ → ℕ → ℕ
+generation_for entries free frees used = cond (frees == 0) 1 (next_generation (entry_in entries (slot_for free frees used)).generation)

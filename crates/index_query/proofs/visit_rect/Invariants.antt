@@ -3,5 +3,4 @@ use Rattle.index_query.proofs.Visits.{Listed}
 use Rattle.index_query.proofs.visit_rect.Given as goal
 
 abbrev pub invariant-loop-slot : goal.invariant-loop-slot
-invariant-loop-slot l =
-    Listed l.index.generation l.index.payload (visits l.index.backend.present l.index.backend.boxes l.index.mark l.rect) l.fn.room l.room l.n l.slot
+invariant-loop-slot l = Listed l.index (visits l.index l.rect) l.fn.room l.room l.n l.slot

@@ -2,6 +2,7 @@ use Rattle.std.proofs.Common.{◌≡◌, ℕ, Bool, true, false, ◌&&◌, leb, 
 use Rattle.std.proofs.lemmas.Bool.{lt-leb}
 use Rattle.counting.specs.Times.{times}
 use Rattle.counting.specs.Lists.{once_below}
+use Rattle.index_types.specs.Slots.{entry}
 use Rattle.index_sound.specs.Sound.{slot_right, sound_of}
 use Rattle.index_sound.proofs.Every.{every_same}
 use Rattle.index_sound.proofs.is_sound.Goals as goal
@@ -32,8 +33,8 @@ returns-then-index-le512-clause-test c =
     let queue = c.in-Some-counted.ensures.counts c.in-Some-counted.queue refl in
     rw (c.slots_right.ensures, le-leb ix.used 512 c.if-index-le512.true, ← c.in-Some.ensures.known, ← c.in-Some-counted.ensures.known)
     (every_same 512
-    (λ (x : ℕ). slot_right x ix.used (get_or ix.mark x 0) (get_or c.in-Some.free x 0) (get_or c.in-Some-counted.queue x 0))
-    (λ (x : ℕ). slot_right x ix.used (get_or ix.mark x 0) (times x (take ix.frees ix.free)) (times x (take ix.queued ix.dirty)))
+    (λ (x : ℕ). slot_right x ix.used (entry ix x).mark (get_or c.in-Some.free x 0) (get_or c.in-Some-counted.queue x 0))
+    (λ (x : ℕ). slot_right x ix.used (entry ix x).mark (times x (take ix.frees ix.free)) (times x (take ix.queued ix.dirty)))
     (λ x. rw (free x, queue x)))
 
 pub returns-else-index-le512-clause-test : goal.returns-else-index-le512-clause-test

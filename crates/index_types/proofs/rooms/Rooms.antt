@@ -8,7 +8,7 @@ use native.Mathlib.Omega.{arith}
 use lib.ListN.{length, take, drop, length-append, length-drop}
 use lib.Seq.{sets-eq, take_at, drop_at, drop-drop, length-take-le, length-sets}
 use Rattle.index_types.specs.declared.NodeId.{NodeId}
-use Rattle.index_types.specs.flat_tables.Tables.{of_id, put_id}
+use Rattle.index_types.specs.rooms.Tables.{of_id, put_id}
 use Rattle.index_types.specs.rooms.Rooms.{numbers_of, ids_in_front}
 
 pub numbers_length : (is : List NodeId) → length (numbers_of is) ≡ 2 * length is

@@ -1,22 +1,11 @@
 -- Words of a line: names parted by spaces, and the 64 bits that 16 hexadecimal digits spell. A byte is its ASCII code.
-use Rattle.std.specs.Prelude.{ℕ, suc, ◌+◌, ◌-◌, ◌*◌, cond, ◌&&◌, List, [], ◌∷◌, length, ◌==◌, ◌≢◌, nat_le, nat_lt, Option, Some, None}
+use Rattle.std.specs.Prelude.{ℕ, ◌+◌, ◌-◌, ◌*◌, cond, ◌&&◌, List, [], ◌∷◌, length, ◌==◌, nat_le, nat_lt, Option, Some, None}
+use Rattle.std.specs.List.{position, slice_split}
+use Rattle.std.specs.Str.{bytes_eq}
 
--- a byte in front of the first name
-unfoldable pub on_first : ℕ → List (List ℕ) → List (List ℕ)
-on_first b [] = (b ∷ []) ∷ []
-on_first b (w ∷ ws) = (b ∷ w) ∷ ws
-
--- the names of a text: each ends at a space, 32, or where the text ends
-unfoldable pub parted : List ℕ → List (List ℕ)
-unfolding on_first
-parted [] = []
-parted (b ∷ s) = cond (b == 32) ([] ∷ parted s) (on_first b (parted s))
-
--- the place of a name w among others, counted from 0: the first where it stands, and their number where it stands nowhere
-pub data Place (w : List ℕ) : List (List ℕ) → ℕ → Type 0 where
-  none : Place w [] 0
-  here : {ws : List (List ℕ)} → Place w (w ∷ ws) 0
-  later : {v : List ℕ} {ws : List (List ℕ)} {k : ℕ} → (v ≢ w) → Place w ws k → Place w (v ∷ ws) (suc k)
+-- the place of a name among those of a text, counted from 0: the first where it stands. Each ends at a space, 32, or where the text ends
+abbrev pub place : List ℕ → List ℕ → Option ℕ
+place w names = position (bytes_eq w) (slice_split (λ b. b == 32) names)
 
 -- a hexadecimal digit's value: `0` to `9` are 48 to 57, `a` to `f` are 97 to 102; 16 for every other byte
 abbrev pub digit_value : ℕ → ℕ

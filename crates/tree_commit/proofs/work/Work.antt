@@ -36,7 +36,7 @@ front_same rs room room' e h = omega (arith, ap length e, front_length rs room)
 
 -- the reworked tree's index can be committed
 abbrev Committable : Tree → Type 0
-Committable t = WholeIndex t.index × SoundOf t.index.mark t.index.free t.index.frees t.index.dirty t.index.queued t.index.used
+Committable t = WholeIndex t.index × SoundOf t.index.entries t.index.free t.index.frees t.index.dirty t.index.queued t.index.used
 
 pub finish_ready : (t w : Tree) → Whole t → SoundTree t → w ≡ (worked t).tree → Committable w
 finish_ready t w W S e = subst Committable (sym e) (index_ready t W S)

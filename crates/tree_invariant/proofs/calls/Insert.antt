@@ -8,10 +8,9 @@ use native.Mathlib.Omega.{arith}
 use native.Mathlib.Decide.{ℕ_discrete}
 use lib.Dec.{eqb}
 use lib.Ieee.{eq}
-use lib.ListN.{length, take, length-set}
+use lib.ListN.{length, set, take, length-set}
 use lib.Seq.{get_or-set_same, get_or-set_other}
 use Rattle.numbers.proofs.Bools.{four}
-use Rattle.geometry.specs.declared.rect.Rect.{Rect}
 use Rattle.geometry.specs.Rectangle.{rect_eq, finite_rect, finite_insets}
 use Rattle.geometry.specs.Transform.{finite_affine}
 use Rattle.geometry_clips.specs.Clips.{finite_clip}
@@ -19,7 +18,6 @@ use Rattle.geometry_clips.proofs.Construct.{construct_again, construct_finite}
 use Rattle.index_types.specs.declared.NodeId.{NodeId}
 use Rattle.tree_types.specs.declared.LocalNode.{LocalNode}
 use Rattle.tree_types.specs.Local.{finite_local, known, stored, empty_rect}
-use Rattle.node_tables.proofs.Laws.{rect_same, rect_other, rect_length}
 use Rattle.counting.specs.Times.{tally, times}
 use Rattle.counting.proofs.Counting.{miss}
 use Rattle.counting.proofs.Kit.{contra}
@@ -28,11 +26,15 @@ use Rattle.link_forest.proofs.Counting.{count_cat, count_under, tally_sym}
 use Rattle.link_forest.proofs.Rep.{rep_times}
 use Rattle.link_forest.specs.Sound.{Sound}
 use Rattle.link_table.specs.declared.Links.{Links}
+use Rattle.tree_state.specs.declared.Dirty.{Dirty}
+use Rattle.tree_state.specs.declared.IndexKey.{IndexKey}
+use Rattle.tree_state.specs.declared.WorldNode.{WorldNode}
 use Rattle.tree_state.specs.declared.Tree.{Tree}
-use Rattle.tree_state.specs.Tree.{live_slots, local_at, generation_at, committed_at, key_at, marked_at, transform_changed_at, clip_changed_at, stored_place, stored_bounds, stored_hit_bounds}
+use Rattle.tree_state.specs.Worlds.{no_world}
+use Rattle.tree_state.specs.Tree.{no_dirty, no_key, live_slots, local_at, generation_at, dirty, index_key, committed_at, key_at, world_at}
 use Rattle.tree_state.specs.Sound.{Live, SoundTree, committed_nodes}
 use Rattle.tree_sound.proofs.Exact.{listed, live}
-use Rattle.tree_steps.specs.Setters.{mark_both}
+use Rattle.tree_steps.specs.Setters.{marked_both, mark_both}
 use Rattle.tree_steps.specs.Structure.{slot_of, generation_of, take_slot, parent_live, link_new, store_local, clear_boxes, without_key, insert_verdict, insert_tree}
 use Rattle.tree_laws.proofs.Whole.{sized}
 use Rattle.tree_state.specs.Whole.{Whole}
@@ -41,11 +43,13 @@ use Rattle.plan.specs.Plan.{onto}
 use Rattle.tree_laws.proofs.Counts.{weight, weight_none, count_same}
 use Rattle.tree_invariant.proofs.calls.Accepted.{live_slot, insert_accepted}
 use Rattle.tree_invariant.proofs.calls.Links.{insert_links}
+use Rattle.tree_laws.proofs.Records.{field_stays}
 use Rattle.tree_laws.proofs.Taken.{new_times, new_low}
 use Rattle.tree_invariant.proofs.calls.Slots.{taken_fits, taken_once, taken_beyond}
 use Rattle.tree_invariant.proofs.calls.Nodes.{Good, good_of, Shape, Node, Kept, kept_node, assemble}
-use Rattle.tree_invariant.proofs.calls.Locals.{local_is, local_here, local_other, whole_local}
-use Rattle.tree_invariant.proofs.calls.Marks.{in_both, both_transform, both_clip, whole_in_both}
+use Rattle.tree_state.specs.Locals.{record_of}
+use Rattle.tree_state.proofs.Locals.{local_is, local_back, record_same, record_other}
+use Rattle.tree_invariant.proofs.calls.Marks.{dirty_here, in_both}
 
 -- ---- what is stored
 
@@ -74,76 +78,65 @@ added t l v =
       slots = take_slot t.slots;
       links = l;
       locals = store_local t.locals x (stored v);
-      worlds = clear_boxes t.worlds x;
+      worlds = set t.worlds x (clear_boxes (world_at t x));
       marks = mark_both t.marks x;
       keys = without_key t.keys x;
       pending = t.pending;
       index = t.index;
     }
 
+-- the new slot's key
+abbrev keyless : Tree → IndexKey
+keyless t = record (index_key t.keys (slot_of t.slots)) { committed = false }
+
 -- any other slot
 module _ (t : Tree) (l : Links) (v : LocalNode) (y : ℕ) (n : y ≡ slot_of t.slots → ⊥) where
   other_local : local_at (added t l v) y ≡ local_at t y
-  other_local = local_is (added t l v) y ∙ local_other t.locals (slot_of t.slots) y n (stored v) ∙ sym (local_is t y)
+  other_local = local_is (added t l v) y ∙ record_other t.locals (slot_of t.slots) (record_of (stored v)) y n ∙ sym (local_is t y)
 
-  other_marked : marked_at (added t l v) y ≡ marked_at t y
-  other_marked = get_or-set_other t.marks.marked (slot_of t.slots) y true false n
+  other_dirty : dirty (added t l v).marks y ≡ dirty t.marks y
+  other_dirty = get_or-set_other t.marks (slot_of t.slots) y marked_both no_dirty n
 
-  other_transform : transform_changed_at (added t l v) y ≡ transform_changed_at t y
-  other_transform = get_or-set_other t.marks.transform (slot_of t.slots) y true false n
-
-  other_clip : clip_changed_at (added t l v) y ≡ clip_changed_at t y
-  other_clip = get_or-set_other t.marks.clip (slot_of t.slots) y true false n
+  other_key : index_key (added t l v).keys y ≡ index_key t.keys y
+  other_key = get_or-set_other t.keys (slot_of t.slots) y (keyless t) no_key n
 
   other_committed : committed_at (added t l v) y ≡ committed_at t y
-  other_committed = get_or-set_other t.keys.committed (slot_of t.slots) y false false n
+  other_committed = ap (λ (i : IndexKey). i.committed) other_key
 
   other_generation : generation_at (added t l v) y ≡ generation_at t y
   other_generation = get_or-set_other t.slots.generation (slot_of t.slots) y (generation_of t.slots) 0 n
 
-  other_bounds : stored_bounds (added t l v) y ≡ stored_bounds t y
-  other_bounds = rect_other t.worlds.bounds (slot_of t.slots) empty_rect y n
-
-  other_hit_bounds : stored_hit_bounds (added t l v) y ≡ stored_hit_bounds t y
-  other_hit_bounds = rect_other t.worlds.hit_bounds (slot_of t.slots) empty_rect y n
+  other_world : world_at (added t l v) y ≡ world_at t y
+  other_world = get_or-set_other t.worlds (slot_of t.slots) y (clear_boxes (world_at t (slot_of t.slots))) no_world n
 
   other_kept : Kept t (added t l v) y
   other_kept =
       record {
         committed = other_committed;
-        key = refl;
+        key = ap (λ (i : IndexKey). i.key) other_key;
         id = ap (λ (g : ℕ). let i : NodeId = record { 0 = y; 1 = g } in i) other_generation;
-        bounds = other_bounds;
-        hit_bounds = other_hit_bounds;
-        transform_grows = λ h. other_transform ∙ h;
-        clip_grows = λ h. other_clip ∙ h;
+        bounds = ap (λ (w : WorldNode). w.bounds) other_world;
+        hit_bounds = ap (λ (w : WorldNode). w.hit_bounds) other_world;
+        transform_grows = λ h. ap (λ (d : Dirty). d.transform) other_dirty ∙ h;
+        clip_grows = λ h. ap (λ (d : Dirty). d.clip) other_dirty ∙ h;
       }
 
 -- the new slot
 module _ (t : Tree) (l : Links) (v : LocalNode) (w : Whole t) (low : slot_of t.slots < 256) where
   new_local : local_at (added t l v) (slot_of t.slots) ≡ stored v
-  new_local = local_is (added t l v) (slot_of t.slots) ∙ local_here t.locals (slot_of t.slots) w.locals low (stored v)
+  new_local = local_is (added t l v) (slot_of t.slots) ∙ record_same t.locals (slot_of t.slots) (record_of (stored v)) w.locals low ∙ local_back (stored v)
 
   new_committed : committed_at (added t l v) (slot_of t.slots) ≡ false
-  new_committed = get_or-set_same t.keys.committed (slot_of t.slots) false false (omega (arith, w.keys.committed))
+  new_committed = ap (λ (i : IndexKey). i.committed) (get_or-set_same t.keys (slot_of t.slots) (keyless t) no_key (omega (arith, w.keys)))
 
   new_generation : generation_at (added t l v) (slot_of t.slots) ≡ generation_of t.slots
   new_generation = get_or-set_same t.slots.generation (slot_of t.slots) (generation_of t.slots) 0 (omega (arith, w.slots.generation))
 
-  new_marked : marked_at (added t l v) (slot_of t.slots) ≡ true
-  new_marked = (in_both t.marks (slot_of t.slots) w.marks low).marked
+  new_dirty : dirty (added t l v).marks (slot_of t.slots) ≡ marked_both
+  new_dirty = dirty_here t.marks (slot_of t.slots) w.marks low marked_both
 
-  new_transform : transform_changed_at (added t l v) (slot_of t.slots) ≡ true
-  new_transform = both_transform t.marks (slot_of t.slots) w.marks low
-
-  new_clip : clip_changed_at (added t l v) (slot_of t.slots) ≡ true
-  new_clip = both_clip t.marks (slot_of t.slots) w.marks low
-
-  new_bounds : stored_bounds (added t l v) (slot_of t.slots) ≡ empty_rect
-  new_bounds = rect_same t.worlds.bounds (slot_of t.slots) empty_rect (omega (arith, w.worlds.bounds))
-
-  new_hit_bounds : stored_hit_bounds (added t l v) (slot_of t.slots) ≡ empty_rect
-  new_hit_bounds = rect_same t.worlds.hit_bounds (slot_of t.slots) empty_rect (omega (arith, w.worlds.hit_bounds))
+  new_world : world_at (added t l v) (slot_of t.slots) ≡ clear_boxes (world_at t (slot_of t.slots))
+  new_world = get_or-set_same t.worlds (slot_of t.slots) (clear_boxes (world_at t (slot_of t.slots))) no_world (omega (arith, w.worlds))
 
   new_node : Good (stored v) → Node (added t l v) (slot_of t.slots)
   new_node G =
@@ -152,13 +145,13 @@ module _ (t : Tree) (l : Links) (v : LocalNode) (w : Whole t) (low : slot_of t.s
         committed = λ c. absurd (contra c new_committed);
         uncommitted =
             λ _. record {
-              no_box = ap (λ (r : Rect). rect_eq r empty_rect) new_bounds ∙ empty_equal;
-              no_hit_box = ap (λ (r : Rect). rect_eq r empty_rect) new_hit_bounds ∙ empty_equal;
-              in_transform = new_transform;
-              in_clip = new_clip;
+              no_box = ap (λ (w : WorldNode). rect_eq w.bounds empty_rect) new_world ∙ empty_equal;
+              no_hit_box = ap (λ (w : WorldNode). rect_eq w.hit_bounds empty_rect) new_world ∙ empty_equal;
+              in_transform = ap (λ (d : Dirty). d.transform) new_dirty;
+              in_clip = ap (λ (d : Dirty). d.clip) new_dirty;
             };
-        transform_marked = λ _. new_marked;
-        clip_marked = λ _. new_marked;
+        transform_marked = λ _. ap (λ (d : Dirty). d.marked) new_dirty;
+        clip_marked = λ _. ap (λ (d : Dirty). d.marked) new_dirty;
       }
 
 -- ---- soundness, where the links have the new slot and all those before
@@ -170,17 +163,10 @@ module _ (t : Tree) (l : Links) (v : LocalNode) (w : Whole t) (S : SoundTree t) 
       record {
         slots = record { generation = length-set t.slots.generation (slot_of t.slots) (generation_of t.slots) ∙ w.slots.generation; free = w.slots.free };
         links = record { order = L.rep.sizes.0; depth = L.rep.sizes.1 };
-        locals = whole_local t.locals (slot_of t.slots) w.locals (stored v);
-        worlds =
-            record {
-              transform = w.worlds.transform;
-              clipped = w.worlds.clipped;
-              clip = w.worlds.clip;
-              bounds = rect_length t.worlds.bounds (slot_of t.slots) empty_rect ∙ w.worlds.bounds;
-              hit_bounds = rect_length t.worlds.hit_bounds (slot_of t.slots) empty_rect ∙ w.worlds.hit_bounds;
-            };
-        marks = whole_in_both t.marks (slot_of t.slots) w.marks low;
-        keys = record { committed = length-set t.keys.committed (slot_of t.slots) false ∙ w.keys.committed; slot = w.keys.slot; generation = w.keys.generation };
+        locals = length-set t.locals (slot_of t.slots) (record_of (stored v)) ∙ w.locals;
+        worlds = length-set t.worlds (slot_of t.slots) (clear_boxes (world_at t (slot_of t.slots))) ∙ w.worlds;
+        marks = (in_both t.marks (slot_of t.slots) w.marks low).whole;
+        keys = length-set t.keys (slot_of t.slots) (keyless t) ∙ w.keys;
         pending = w.pending;
         index = w.index;
       }
@@ -219,8 +205,8 @@ module _ (t : Tree) (l : Links) (v : LocalNode) (w : Whole t) (S : SoundTree t) 
         | no n ↦
             let k = was_live y n h in
             kept_node t (added t l v) S refl y k (other_kept t l v y n) (subst Good (sym (other_local t l v y n)) (good_of t S y k))
-            (λ c. other_marked t l v y n ∙ S.transform_marked y k (sym (other_transform t l v y n) ∙ c))
-            (λ c. other_marked t l v y n ∙ S.clip_marked y k (sym (other_clip t l v y n) ∙ c))
+            (subst (λ (d : Dirty). d.transform ≡ true → d.marked ≡ true) (sym (other_dirty t l v y n)) (S.transform_marked y k))
+            (subst (λ (d : Dirty). d.clip ≡ true → d.marked ≡ true) (sym (other_dirty t l v y n)) (S.clip_marked y k))
       ]
 
   added_weight : (y : ℕ) → weight (committed_at (added t l v) y) (times y (take l.count l.order)) ≡ weight (committed_at t y) (times y (live_slots t))
@@ -289,14 +275,10 @@ module _ (t : Tree) (parent : Option NodeId) (v : LocalNode) where
   unfolding insert_tree
   insert_index = refl
 
-  -- a key and a place are read of committed nodes only, and stay
+  -- a key is read of committed nodes only, and stays
   pub insert_key : (y : ℕ) → key_at (insert_tree t parent v) y ≡ key_at t y
   unfolding insert_tree
-  insert_key y = refl
-
-  pub insert_place : (y : ℕ) → stored_place (insert_tree t parent v) y ≡ stored_place t y
-  unfolding insert_tree
-  insert_place y = refl
+  insert_key y = field_stays (λ (i : IndexKey). i.key) t.keys (slot_of t.slots) (keyless t) no_key refl y
 
   -- ---- of any other slot
   module _ (y : ℕ) (n : y ≡ slot_of t.slots → ⊥) where
@@ -304,17 +286,9 @@ module _ (t : Tree) (parent : Option NodeId) (v : LocalNode) where
     unfolding insert_tree
     insert_local_other = other_local t (link_new t parent (slot_of t.slots)) v y n
 
-    pub insert_marked_other : marked_at (insert_tree t parent v) y ≡ marked_at t y
+    pub insert_dirty_other : dirty (insert_tree t parent v).marks y ≡ dirty t.marks y
     unfolding insert_tree
-    insert_marked_other = other_marked t (link_new t parent (slot_of t.slots)) v y n
-
-    pub insert_transform_other : transform_changed_at (insert_tree t parent v) y ≡ transform_changed_at t y
-    unfolding insert_tree
-    insert_transform_other = other_transform t (link_new t parent (slot_of t.slots)) v y n
-
-    pub insert_clip_other : clip_changed_at (insert_tree t parent v) y ≡ clip_changed_at t y
-    unfolding insert_tree
-    insert_clip_other = other_clip t (link_new t parent (slot_of t.slots)) v y n
+    insert_dirty_other = other_dirty t (link_new t parent (slot_of t.slots)) v y n
 
     pub insert_committed_other : committed_at (insert_tree t parent v) y ≡ committed_at t y
     unfolding insert_tree
@@ -324,13 +298,9 @@ module _ (t : Tree) (parent : Option NodeId) (v : LocalNode) where
     unfolding insert_tree
     insert_generation_other = other_generation t (link_new t parent (slot_of t.slots)) v y n
 
-    pub insert_bounds_other : stored_bounds (insert_tree t parent v) y ≡ stored_bounds t y
+    pub insert_world_other : world_at (insert_tree t parent v) y ≡ world_at t y
     unfolding insert_tree
-    insert_bounds_other = other_bounds t (link_new t parent (slot_of t.slots)) v y n
-
-    pub insert_hit_bounds_other : stored_hit_bounds (insert_tree t parent v) y ≡ stored_hit_bounds t y
-    unfolding insert_tree
-    insert_hit_bounds_other = other_hit_bounds t (link_new t parent (slot_of t.slots)) v y n
+    insert_world_other = other_world t (link_new t parent (slot_of t.slots)) v y n
 
   -- ---- of the new slot
   module _ (w : Whole t) (S : SoundTree t) (accepted : insert_verdict t parent v ≡ Ok tt) where
@@ -341,17 +311,9 @@ module _ (t : Tree) (parent : Option NodeId) (v : LocalNode) where
     unfolding insert_tree
     insert_local_new = new_local t (link_new t parent (slot_of t.slots)) v w insert_low
 
-    pub insert_marked_new : marked_at (insert_tree t parent v) (slot_of t.slots) ≡ true
+    pub insert_dirty_new : dirty (insert_tree t parent v).marks (slot_of t.slots) ≡ marked_both
     unfolding insert_tree
-    insert_marked_new = new_marked t (link_new t parent (slot_of t.slots)) v w insert_low
-
-    pub insert_transform_new : transform_changed_at (insert_tree t parent v) (slot_of t.slots) ≡ true
-    unfolding insert_tree
-    insert_transform_new = new_transform t (link_new t parent (slot_of t.slots)) v w insert_low
-
-    pub insert_clip_new : clip_changed_at (insert_tree t parent v) (slot_of t.slots) ≡ true
-    unfolding insert_tree
-    insert_clip_new = new_clip t (link_new t parent (slot_of t.slots)) v w insert_low
+    insert_dirty_new = new_dirty t (link_new t parent (slot_of t.slots)) v w insert_low
 
     pub insert_committed_new : committed_at (insert_tree t parent v) (slot_of t.slots) ≡ false
     unfolding insert_tree
@@ -361,10 +323,7 @@ module _ (t : Tree) (parent : Option NodeId) (v : LocalNode) where
     unfolding insert_tree
     insert_generation_new = new_generation t (link_new t parent (slot_of t.slots)) v w insert_low
 
-    pub insert_bounds_new : stored_bounds (insert_tree t parent v) (slot_of t.slots) ≡ empty_rect
+    -- its place stays, and it has no boxes
+    pub insert_world_new : world_at (insert_tree t parent v) (slot_of t.slots) ≡ clear_boxes (world_at t (slot_of t.slots))
     unfolding insert_tree
-    insert_bounds_new = new_bounds t (link_new t parent (slot_of t.slots)) v w insert_low
-
-    pub insert_hit_bounds_new : stored_hit_bounds (insert_tree t parent v) (slot_of t.slots) ≡ empty_rect
-    unfolding insert_tree
-    insert_hit_bounds_new = new_hit_bounds t (link_new t parent (slot_of t.slots)) v w insert_low
+    insert_world_new = new_world t (link_new t parent (slot_of t.slots)) v w insert_low

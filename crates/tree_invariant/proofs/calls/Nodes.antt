@@ -4,8 +4,9 @@ use mathlib.Core.Path.{◌≡◌, sym, ap, subst, ◌∙◌}
 use mathlib.Core.Bool.{true, false}
 use Prim.Native.Nat.{ℕ, ◌+◌, ◌≤◌, ◌<◌}
 use native.Mathlib.Omega.{arith}
-use lib.ListN.{get_or, take}
+use lib.ListN.{take}
 use lib.IntN.{ℤ}
+use Rattle.index_types.specs.Slots.{entry_in}
 use Rattle.numbers.proofs.Bools.{four, all_four}
 use Rattle.geometry.specs.declared.rect.Rect.{Rect}
 use Rattle.geometry.specs.declared.insets.Insets.{Insets}
@@ -15,7 +16,6 @@ use Rattle.geometry.specs.Transform.{finite_affine}
 use Rattle.geometry_clips.specs.declared.clip.Clip.{Clip}
 use Rattle.geometry_clips.specs.Clips.{constructed, finite_clip}
 use Rattle.index_types.specs.declared.Key.{Key}
-use Rattle.index_types.specs.flat_tables.Tables.{id_at}
 use Rattle.tree_types.specs.declared.LocalNode.{LocalNode}
 use Rattle.tree_types.specs.declared.NodeFlags.{NodeFlags}
 use Rattle.tree_types.specs.Local.{finite_local, known, empty_rect, with_transform, with_clip, with_bounds, with_slop, with_level, with_flags}
@@ -115,9 +115,9 @@ module _ (t u : Tree) (S : SoundTree t) (index : u.index ≡ t.index) where
       record {
         slot = ap (λ (key : Key). key.0) K.key ∙ O.slot;
         is_entry = O.is_entry;
-        unmarked = ap (λ (ix : Index). get_or ix.mark k 0) index ∙ O.unmarked;
-        under_key = ap (λ (ix : Index). get_or ix.generation k 0) index ∙ O.under_key ∙ sym (ap (λ (key : Key). key.1) K.key);
-        carries = ap (λ (ix : Index). id_at ix.payload k) index ∙ O.carries ∙ sym K.id;
+        unmarked = ap (λ (ix : Index). (entry_in ix.entries k).mark) index ∙ O.unmarked;
+        under_key = ap (λ (ix : Index). (entry_in ix.entries k).generation) index ∙ O.under_key ∙ sym (ap (λ (key : Key). key.1) K.key);
+        carries = ap (λ (ix : Index). (entry_in ix.entries k).payload) index ∙ O.carries ∙ sym K.id;
       }
 
   -- a node that was live
@@ -159,15 +159,15 @@ module _ (t u : Tree) (S : SoundTree t) (index : u.index ≡ t.index) where
         pending = let p = ap (λ (p : Pending). p.count) pending in let q = S.pending in omega (arith, p, q, removed);
         few = let q = S.few in omega (arith, q, removed, counted);
         owned = owner;
-        index = subst (λ (ix : Index). SoundOf ix.mark ix.free ix.frees ix.dirty ix.queued ix.used) (sym index) S.index;
+        index = subst (λ (ix : Index). SoundOf ix.entries ix.free ix.frees ix.dirty ix.queued ix.used) (sym index) S.index;
       }
     where
       removed : removed_entries u ≡ removed_entries t
-      removed = ap (λ (ix : Index). count_below 512 (λ k. is_removed (get_or ix.mark k 0))) index
+      removed = ap (λ (ix : Index). count_below 512 (λ k. is_removed (entry_in ix.entries k).mark)) index
 
       owner : (k : ℕ) → k < 512 → (entry_mark u k ≡ 0 → ⊥) → is_removed (entry_mark u k) ≡ false → (x : ℕ) × Live u x × (committed_at u x ≡ true) × Owns u x k
       owner k l n r =
-          let m : entry_mark u k ≡ entry_mark t k = ap (λ (ix : Index). get_or ix.mark k 0) index in
+          let m : entry_mark u k ≡ entry_mark t k = ap (λ (ix : Index). (entry_in ix.entries k).mark) index in
           let O = S.owned k l (λ z. n (m ∙ z)) (sym (ap is_removed m) ∙ r) in
           let K = kept O.0 O.1 in
           (O.0, K.0, K.1.committed ∙ O.2, kept_owns O.0 K.1 k O.3)

@@ -2,10 +2,11 @@
 use Rattle.std.specs.Prelude.{Ok, None, Some, Option}
 use mathlib.Core.Path.{◌≡◌, refl, sym, ap, subst, ◌∙◌}
 use mathlib.Core.Bool.{true, false}
+use mathlib.Core.List.{List}
 use Prim.Native.Nat.{ℕ, ◌≤◌, ◌<◌}
 use native.Mathlib.Omega.{arith}
 use lib.Dec.{ltb}
-use lib.ListN.{take}
+use lib.ListN.{length, take}
 use Rattle.index_types.specs.declared.NodeId.{NodeId}
 use Rattle.counting.specs.Times.{times}
 use Rattle.link_forest.specs.Forest.{Forest, has, count, remove, part}
@@ -13,35 +14,35 @@ use Rattle.link_forest.proofs.Counting.{count_cat, count_under, count_parts, rem
 use Rattle.link_forest.proofs.Rep.{rep_times}
 use Rattle.link_forest.specs.Sound.{Sound}
 use Rattle.link_table.specs.declared.Links.{Links}
-use Rattle.tree_state.specs.declared.Marks.{Marks}
+use Rattle.tree_state.specs.declared.Dirty.{Dirty}
 use Rattle.tree_state.specs.declared.Tree.{Tree}
-use Rattle.tree_state.specs.Tree.{live_slots, local_at, is_live, position_of, committed_at, marked_at, transform_changed_at, clip_changed_at}
+use Rattle.tree_state.specs.Tree.{live_slots, local_at, is_live, position_of, dirty, committed_at}
 use Rattle.tree_state.specs.Sound.{Live, SoundTree, committed_nodes}
 use Rattle.tree_sound.proofs.Exact.{live_is, live_low}
-use Rattle.tree_steps.specs.Setters.{mark_both}
+use Rattle.tree_steps.specs.Setters.{marked_both, mark_both}
 use Rattle.tree_steps.specs.Structure.{parent_live, at_or_below, move_links, reparent_verdict, reparent_tree}
 use Rattle.tree_laws.proofs.Whole.{sized}
-use Rattle.tree_state.specs.Whole.{Whole, WholeMarks}
+use Rattle.tree_state.specs.Whole.{Whole}
 use Rattle.tree_laws.proofs.Ground.{Linked, linked, live_has, below_by_places}
 use Rattle.plan.specs.Plan.{onto}
 use Rattle.tree_laws.proofs.Counts.{weight, count_same}
 use Rattle.tree_invariant.proofs.calls.Accepted.{live_slot, reparent_accepted}
 use Rattle.tree_invariant.proofs.calls.Links.{reparent_links}
 use Rattle.tree_invariant.proofs.calls.Nodes.{Good, good_of, Shape, Node, Kept, kept_node, assemble}
-use Rattle.tree_invariant.proofs.calls.Marks.{Grown, grown, in_both, both_transform, both_clip, whole_in_both}
+use Rattle.tree_invariant.proofs.calls.Marks.{Grown, grown, dirty_here, in_both}
 
 -- a tree with other links and marks
-abbrev relinked : Tree → Links → Marks → Tree
+abbrev relinked : Tree → Links → List Dirty → Tree
 relinked t l m =
     record { slots = t.slots; links = l; locals = t.locals; worlds = t.worlds; marks = m; keys = t.keys; pending = t.pending; index = t.index }
 
-same_local : (t : Tree) (l : Links) (m : Marks) (y : ℕ) → local_at (relinked t l m) y ≡ local_at t y
+same_local : (t : Tree) (l : Links) (m : List Dirty) (y : ℕ) → local_at (relinked t l m) y ≡ local_at t y
 unfolding local_at
 same_local t l m y = refl
 
 -- ---- links of the same slots
-module _ (t : Tree) (l : Links) (m : Marks) (w : Whole t) (S : SoundTree t) (wm : WholeMarks m) (g : Forest) (L : Sound l.order l.depth l.count g)
-    (same : (y : ℕ) → times y (take l.count l.order) ≡ times y (live_slots t)) (marks : (y : ℕ) → Live t y → Grown t.marks m y) where
+module _ (t : Tree) (l : Links) (m : List Dirty) (w : Whole t) (S : SoundTree t) (wm : length m ≡ 256) (g : Forest) (L : Sound l.order l.depth l.count g)
+    (same : (y : ℕ) → times y (take l.count l.order) ≡ times y (live_slots t)) (marks : (y : ℕ) → Live t y → Grown (dirty t.marks y) (dirty m y)) where
   relinked_whole : Whole (relinked t l m)
   relinked_whole =
       record {
@@ -115,7 +116,7 @@ module _ (t : Tree) (i : NodeId) (parent : Option NodeId) where
       let g = onto parent (part i.0 F.0) (remove i.0 F.0) in
       let L = reparent_links t F.0 F.1 i parent e in
       let low : i.0 < 256 = live_low t (sized t w) S i.0 A.is_live_lem in
-      keep_relinked t (move_links t (position_of t i.0) parent) (mark_both t.marks i.0) w S (whole_in_both t.marks i.0 w.marks low) g L
+      keep_relinked t (move_links t (position_of t i.0) parent) (mark_both t.marks i.0) w S (in_both t.marks i.0 w.marks low).whole g L
       (λ y. rep_times L.rep y ∙ reparent_count F.0 F.1 e y ∙ sym (rep_times F.1.rep y))
       (λ y h. grown t.marks (mark_both t.marks i.0) i.0 (in_both t.marks i.0 w.marks low) y (S.transform_marked y h) (S.clip_marked y h))
 
@@ -156,30 +157,13 @@ module _ (t : Tree) (x : ℕ) (parent : Option NodeId) where
 
   -- ---- marks
   module _ (w : Whole t) (low : x < 256) where
-    pub reparent_marked_new : marked_at (reparent_tree t x parent) x ≡ true
+    pub reparent_dirty_new : dirty (reparent_tree t x parent).marks x ≡ marked_both
     unfolding reparent_tree
-    reparent_marked_new = (in_both t.marks x w.marks low).marked
+    reparent_dirty_new = dirty_here t.marks x w.marks low marked_both
 
-    pub reparent_transform_new : transform_changed_at (reparent_tree t x parent) x ≡ true
+    pub reparent_dirty_other : (y : ℕ) → (y ≡ x → ⊥) → dirty (reparent_tree t x parent).marks y ≡ dirty t.marks y
     unfolding reparent_tree
-    reparent_transform_new = both_transform t.marks x w.marks low
-
-    pub reparent_clip_new : clip_changed_at (reparent_tree t x parent) x ≡ true
-    unfolding reparent_tree
-    reparent_clip_new = both_clip t.marks x w.marks low
-
-    module _ (y : ℕ) (n : y ≡ x → ⊥) where
-      pub reparent_marked_other : marked_at (reparent_tree t x parent) y ≡ marked_at t y
-      unfolding reparent_tree
-      reparent_marked_other = (in_both t.marks x w.marks low).marked_other y n
-
-      pub reparent_transform_other : transform_changed_at (reparent_tree t x parent) y ≡ transform_changed_at t y
-      unfolding reparent_tree
-      reparent_transform_other = (in_both t.marks x w.marks low).transform_other y n
-
-      pub reparent_clip_other : clip_changed_at (reparent_tree t x parent) y ≡ clip_changed_at t y
-      unfolding reparent_tree
-      reparent_clip_other = (in_both t.marks x w.marks low).clip_other y n
+    reparent_dirty_other = (in_both t.marks x w.marks low).other
 
 -- the node that is moved is one of the tables' slots
 pub reparent_low : (t : Tree) (i : NodeId) (parent : Option NodeId) → Whole t → SoundTree t → reparent_verdict t i parent ≡ Ok tt → i.0 < 256

@@ -2,9 +2,11 @@
 use Rattle.std.specs.Prelude.{Ok, Err}
 use mathlib.Core.Path.{◌≡◌, refl, sym, ap, subst, ◌∙◌}
 use mathlib.Core.Bool.{Bool, true, false}
+use mathlib.Core.List.{List}
 use Prim.Native.Nat.{ℕ, ◌<◌}
 use native.Mathlib.Decide.{ℕ_discrete}
 use lib.IntN.{ℤ}
+use lib.ListN.{length, set, length-set}
 use Rattle.geometry.specs.declared.rect.Rect.{Rect}
 use Rattle.geometry.specs.declared.insets.Insets.{Insets}
 use Rattle.geometry.specs.Rectangle.{rect_eq, insets_eq, finite_rect, finite_insets}
@@ -15,24 +17,22 @@ use Rattle.geometry_clips.specs.Clips.{constructed, clip_eq, finite_clip}
 use Rattle.geometry_clips.proofs.Construct.{construct_again, construct_finite}
 use Rattle.index_types.specs.declared.NodeId.{NodeId}
 use Rattle.tree_types.specs.declared.NodeFlags.{NodeFlags}
-use Rattle.tree_types.specs.declared.LocalNode.{LocalNode}
-use Rattle.tree_types.specs.Local.{known, with_transform, with_clip, with_bounds, with_slop, with_level, with_flags}
-use Rattle.node_tables.specs.Tables.{rect_at, insets_at, affine_at}
-use Rattle.tree_state.specs.declared.Locals.{Locals}
-use Rattle.tree_state.specs.declared.Marks.{Marks}
+use Rattle.tree_types.specs.Local.{known}
+use Rattle.tree_state.specs.declared.Local.{Local}
+use Rattle.tree_state.specs.declared.Dirty.{Dirty}
 use Rattle.tree_state.specs.declared.Tree.{Tree}
 use Rattle.tree_state.specs.declared.Refusal.TheVariants as no
-use Rattle.tree_state.specs.Tree.{clip_of, Verdict}
+use Rattle.tree_state.specs.Tree.{clip_of, dirty, Verdict}
 use Rattle.tree_state.specs.Sound.{Live, SoundTree}
 use Rattle.tree_sound.proofs.Exact.{live_low}
-use Rattle.tree_steps.specs.Setters.{of_node, tree_if, with_locals, unless, mark_alone, mark_transform, mark_clip, store_transform, store_clip, store_bounds, store_slop, store_level, store_flags, set_transform, set_clip, set_bounds, set_slop, set_level, set_flags, transform_verdict, clip_verdict, bounds_verdict, slop_verdict, flags_verdict}
+use Rattle.tree_steps.specs.Setters.{of_node, tree_if, with_locals, unless, mark_alone, mark_transform, mark_clip, set_transform, set_clip, set_bounds, set_slop, set_level, set_flags, transform_verdict, clip_verdict, bounds_verdict, slop_verdict, flags_verdict}
 use Rattle.tree_laws.proofs.Whole.{sized}
-use Rattle.tree_state.specs.Whole.{Whole, WholeLocals, WholeMarks}
+use Rattle.tree_state.specs.Whole.{Whole}
 use Rattle.tree_invariant.proofs.calls.Accepted.{checked_both, of_node_lem, of_value_lem}
 use Rattle.tree_invariant.proofs.calls.Nodes.{Good, good_of, Shape, Node, Kept, kept_node, assemble, good_bounds, good_slop, good_transform, good_clip, good_level, good_flags}
-use Rattle.tree_state.specs.Locals.{local_in}
-use Rattle.tree_invariant.proofs.calls.Locals.{local_is, transform_here, transform_other, clip_here_slot, clip_other_slot, bounds_here, bounds_other, slop_here, slop_other, level_here, level_other, flags_here, flags_other, whole_transform, whole_clip, whole_bounds, whole_slop, whole_level, whole_flags}
-use Rattle.tree_invariant.proofs.calls.Marks.{Grown, Marking, grown, alone, in_transform, in_clip, whole_alone, whole_in_transform, whole_in_clip}
+use Rattle.tree_state.specs.Locals.{record_at, local_of, put_clip, local_in}
+use Rattle.tree_state.proofs.Locals.{local_is, clip_stored, record_same, record_other}
+use Rattle.tree_invariant.proofs.calls.Marks.{Grown, Marking, grown, alone, in_transform, in_clip}
 
 abbrev pub Keeps : Tree → Type 0
 Keeps t = Whole t × SoundTree t
@@ -42,13 +42,13 @@ pub keep_if : (r : Verdict) (done t : Tree) → (r ≡ Ok tt → Keeps done) →
 keep_if (Ok tt) done t k h = k refl
 keep_if (Err q) done t k h = h
 
-shape_of : (t : Tree) → SoundTree t → (l : Locals) (m : Marks) → Shape (with_locals t l m)
+shape_of : (t : Tree) → SoundTree t → (l : List Local) (m : List Dirty) → Shape (with_locals t l m)
 shape_of t S l m =
     record { used_fits = S.used_fits; count_fits = S.count_fits; free_fits = S.free_fits; links = S.links; once = S.once; beyond = S.beyond }
 
 -- ---- one law: local records and marks in place of the tree's, right at every live slot
-pub keep_locals : (t : Tree) (l : Locals) (m : Marks) → Whole t → SoundTree t → WholeLocals l → WholeMarks m
-    → ((y : ℕ) → Live t y → Good (local_in l y)) → ((y : ℕ) → Live t y → Grown t.marks m y) → Keeps (with_locals t l m)
+pub keep_locals : (t : Tree) (l : List Local) (m : List Dirty) → Whole t → SoundTree t → length l ≡ 256 → length m ≡ 256
+    → ((y : ℕ) → Live t y → Good (local_in l y)) → ((y : ℕ) → Live t y → Grown (dirty t.marks y) (dirty m y)) → Keeps (with_locals t l m)
 keep_locals t l m w S wl wm good marks = (
   record { slots = w.slots; links = w.links; locals = wl; worlds = w.worlds; marks = wm; keys = w.keys; pending = w.pending; index = w.index },
   assemble t (with_locals t l m) S refl refl (shape_of t S l m) node (λ y h. (h, kept y h)) refl,
@@ -69,82 +69,78 @@ module _ (t : Tree) (w : Whole t) (S : SoundTree t) (x : ℕ) (here : Live t x) 
   before : (y : ℕ) → Live t y → Good (local_in t.locals y)
   before y h = subst Good (local_is t y) (good_of t S y h)
 
-  -- its record is v, and the others stay
-  good_at : (l : Locals) (v : LocalNode) → local_in l x ≡ v → Good v → ((y : ℕ) → (y ≡ x → ⊥) → local_in l y ≡ local_in t.locals y) → (y : ℕ) → Live t y → Good (local_in l y)
-  good_at l v e G o y h =
-      elim (ℕ_discrete y x) [
-        | yes q ↦ subst Good (sym (ap (local_in l) q ∙ e)) G
-        | no n ↦ subst Good (sym (o y n)) (before y h)
-      ]
-
-  marks_at : (m : Marks) → Marking t.marks m x → (y : ℕ) → Live t y → Grown t.marks m y
+  marks_at : (m : List Dirty) → Marking t.marks m x → (y : ℕ) → Live t y → Grown (dirty t.marks y) (dirty m y)
   marks_at m M y h = grown t.marks m x M y (S.transform_marked y h) (S.clip_marked y h)
 
-  as_they_are : (y : ℕ) → Live t y → Grown t.marks t.marks y
+  as_they_are : (y : ℕ) → Live t y → Grown (dirty t.marks y) (dirty t.marks y)
   as_they_are y h = record { transform = λ e. e; clip = λ e. e; transform_marked = S.transform_marked y h; clip_marked = S.clip_marked y h }
 
   either : (b : Bool) (u : Tree) → Keeps u → Keeps (unless b t u)
   either true u K = (w, S)
   either false u K = K
 
+  -- its record is r, and the others stay
+  slot_keeps : (r : Local) (m : List Dirty) → length m ≡ 256 → Good (local_of r) → ((y : ℕ) → Live t y → Grown (dirty t.marks y) (dirty m y))
+      → Keeps (with_locals t (set t.locals x r) m)
+  slot_keeps r m wm G grown_lem = keep_locals t (set t.locals x r) m w S (length-set t.locals x r ∙ w.locals) wm good grown_lem
+    where
+      good : (y : ℕ) → Live t y → Good (local_in (set t.locals x r) y)
+      good y h =
+          elim (ℕ_discrete y x) [
+            | yes q ↦ subst Good (sym (ap (local_in (set t.locals x r)) q ∙ record_same t.locals x r w.locals low)) G
+            | no n ↦ subst Good (sym (record_other t.locals x r y n)) (before y h)
+          ]
+
+  abbrev now : Local
+  now = record_at t.locals x
+
+  was : Good (local_of now)
+  was = before x here
+
   slot_transform : (a : Affine) → finite_affine a ≡ true → Keeps (set_transform t x a)
   unfolding set_transform
   slot_transform a f =
-      let l = store_transform t.locals x a in
-      let N = good_transform (local_in t.locals x) (before x here) a f in
-      either (affine_eq (affine_at t.locals.transform x) a) (with_locals t l (mark_transform t.marks x))
-      (keep_locals t l (mark_transform t.marks x) w S (whole_transform t.locals x w.locals a) (whole_in_transform t.marks x w.marks low)
-      (good_at l (with_transform a (local_in t.locals x)) (transform_here t.locals x w.locals low a) N (λ y n. transform_other t.locals x y n a))
-      (marks_at (mark_transform t.marks x) (in_transform t.marks x w.marks low)))
+      let r = record now { transform = a } in
+      let m = mark_transform t.marks x in
+      let M = in_transform t.marks x w.marks low in
+      either (affine_eq now.transform a) (with_locals t (set t.locals x r) m)
+      (slot_keeps r m M.whole (good_transform (local_of now) was a f) (marks_at m M))
 
   slot_clip : (c : Clip) → finite_clip c ≡ true → Keeps (set_clip t x c)
   unfolding set_clip
   slot_clip c f =
       let d = constructed c in
-      let l = store_clip t.locals x d in
-      let N = good_clip (local_in t.locals x) (before x here) d (construct_finite c f) (construct_again c) in
-      either (clip_eq (clip_of t x) d) (with_locals t l (mark_clip t.marks x))
-      (keep_locals t l (mark_clip t.marks x) w S (whole_clip t.locals x w.locals d) (whole_in_clip t.marks x w.marks low)
-      (good_at l (with_clip d (local_in t.locals x)) (clip_here_slot t.locals x w.locals low d) N (λ y n. clip_other_slot t.locals x y n d))
-      (marks_at (mark_clip t.marks x) (in_clip t.marks x w.marks low)))
+      let r = put_clip d now in
+      let m = mark_clip t.marks x in
+      let M = in_clip t.marks x w.marks low in
+      either (clip_eq (clip_of t x) d) (with_locals t (set t.locals x r) m)
+      (slot_keeps r m M.whole (subst Good (sym (clip_stored d now)) (good_clip (local_of now) was d (construct_finite c f) (construct_again c))) (marks_at m M))
 
-  slot_bounds : (r : Rect) → finite_rect r ≡ true → Keeps (set_bounds t x r)
+  slot_bounds : (b : Rect) → finite_rect b ≡ true → Keeps (set_bounds t x b)
   unfolding set_bounds
-  slot_bounds r f =
-      let l = store_bounds t.locals x r in
-      let N = good_bounds (local_in t.locals x) (before x here) r f in
-      either (rect_eq (rect_at t.locals.bounds x) r) (with_locals t l (mark_alone t.marks x))
-      (keep_locals t l (mark_alone t.marks x) w S (whole_bounds t.locals x w.locals r) (whole_alone t.marks x w.marks low)
-      (good_at l (with_bounds r (local_in t.locals x)) (bounds_here t.locals x w.locals low r) N (λ y n. bounds_other t.locals x y n r))
-      (marks_at (mark_alone t.marks x) (alone t.marks x w.marks low)))
+  slot_bounds b f =
+      let r = record now { bounds = b } in
+      let m = mark_alone t.marks x in
+      let M = alone t.marks x w.marks low in
+      either (rect_eq now.bounds b) (with_locals t (set t.locals x r) m)
+      (slot_keeps r m M.whole (good_bounds (local_of now) was b f) (marks_at m M))
 
   slot_slop : (s : Insets) → finite_insets s ≡ true → Keeps (set_slop t x s)
   unfolding set_slop
   slot_slop s f =
-      let l = store_slop t.locals x s in
-      let N = good_slop (local_in t.locals x) (before x here) s f in
-      either (insets_eq (insets_at t.locals.slop x) s) (with_locals t l (mark_alone t.marks x))
-      (keep_locals t l (mark_alone t.marks x) w S (whole_slop t.locals x w.locals s) (whole_alone t.marks x w.marks low)
-      (good_at l (with_slop s (local_in t.locals x)) (slop_here t.locals x w.locals low s) N (λ y n. slop_other t.locals x y n s))
-      (marks_at (mark_alone t.marks x) (alone t.marks x w.marks low)))
+      let r = record now { slop = s } in
+      let m = mark_alone t.marks x in
+      let M = alone t.marks x w.marks low in
+      either (insets_eq now.slop s) (with_locals t (set t.locals x r) m)
+      (slot_keeps r m M.whole (good_slop (local_of now) was s f) (marks_at m M))
 
   slot_level : (z : ℤ) → Keeps (set_level t x z)
   unfolding set_level
-  slot_level z =
-      let l = store_level t.locals x z in
-      let N = good_level (local_in t.locals x) (before x here) z in
-      keep_locals t l t.marks w S (whole_level t.locals x w.locals z) w.marks
-      (good_at l (with_level z (local_in t.locals x)) (level_here t.locals x w.locals low z) N (λ y n. level_other t.locals x y n z))
-      as_they_are
+  slot_level z = slot_keeps (record now { level = z }) t.marks w.marks (good_level (local_of now) was z) as_they_are
 
   slot_flags : (f : NodeFlags) → known f ≡ true → Keeps (set_flags t x f)
   unfolding set_flags
-  slot_flags f k =
-      let l = store_flags t.locals x f in
-      let N = good_flags (local_in t.locals x) (before x here) f k in
-      keep_locals t l t.marks w S (whole_flags t.locals x w.locals f) w.marks
-      (good_at l (with_flags f (local_in t.locals x)) (flags_here t.locals x w.locals low f) N (λ y n. flags_other t.locals x y n f))
-      as_they_are
+  slot_flags f k = slot_keeps (record now { flags = f }) t.marks w.marks (good_flags (local_of now) was f k) as_they_are
 
 -- ---- the six
 module _ (t : Tree) (i : NodeId) where

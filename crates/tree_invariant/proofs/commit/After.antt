@@ -1,5 +1,5 @@
 -- After an accepted commit nothing calls for another: no live node has a mark or counts as changed, no entry is removed, nothing is pending.
-use mathlib.Core.Path.{◌≡◌, refl, sym, ◌∙◌}
+use mathlib.Core.Path.{◌≡◌, refl, sym, ap, ◌∙◌}
 use mathlib.Core.Bool.{Bool, true, false, ◌||◌}
 use mathlib.Core.List.{List, [], ◌∷◌}
 use Prim.Native.Nat.{ℕ, zero, suc, ◌≤◌}
@@ -13,13 +13,14 @@ use Rattle.link_forest.specs.Forest.{Forest}
 use Rattle.link_forest.proofs.Bools.{never}
 use Rattle.link_forest.proofs.Counting.{has_count}
 use Rattle.link_forest.proofs.Rep.{rep_times}
+use Rattle.tree_state.specs.declared.Dirty.{Dirty}
 use Rattle.tree_state.specs.declared.Tree.{Tree}
 use Rattle.tree_state.specs.Tree.{live_slots, marked_at, transform_changed_at, clip_changed_at, committed_at, entry_mark, is_removed, some, any_of, needs_commit}
 use Rattle.tree_state.specs.Sound.{SoundTree, Live, count_below}
 use Rattle.tree_state.specs.Whole.{Whole}
 use Rattle.tree_laws.proofs.Ground.{Linked, linked, live_has}
 use Rattle.tree_steps.specs.Commit.{visits_of, rework_all, begun, no_marks, finished, work_for, commit_tree}
-use Rattle.agreement.proofs.worlds.Sound.{Finished, no_mark, none_removed}
+use Rattle.agreement.proofs.worlds.Sound.{Finished, none_removed}
 use Rattle.tree_invariant.specs.commit.Calm.{Calm}
 use Rattle.tree_invariant.proofs.commit.Keep.{finished_in, keep_commit}
 
@@ -93,11 +94,11 @@ unfolding needs_commit
 calm_after t d W S F =
     record {
       no_need =
-          rw (none_any (marked_at (finished d)) (live_slots (finished d)) (no_mark 256), none_some 512 (λ k. is_removed (entry_mark (finished d) k)) (λ k. lt-leb 4 (entry_mark (finished d) k) (omega (arith, F.marks k))))
+          rw (none_any (marked_at (finished d)) (live_slots (finished d)) (λ x. ap (λ (c : Dirty). c.marked) (F.dirty_is x)), none_some 512 (λ k. is_removed (entry_mark (finished d) k)) (λ k. lt-leb 4 (entry_mark (finished d) k) (omega (arith, F.marks k))))
           (le-ltb 0 0 (omega arith));
-      unmarked = λ x h. no_mark 256 x;
-      transform_same = λ x h. no_mark 256 x;
-      clip_same = λ x h. no_mark 256 x;
+      unmarked = λ x h. ap (λ (c : Dirty). c.marked) (F.dirty_is x);
+      transform_same = λ x h. ap (λ (c : Dirty). c.transform) (F.dirty_is x);
+      clip_same = λ x h. ap (λ (c : Dirty). c.clip) (F.dirty_is x);
       none_removed = none_removed t (finished d) W.links.order S F;
       none_pending = refl;
     }

@@ -5,16 +5,19 @@ use mathlib.Core.List.{List, []}
 use Prim.Native.Nat.{ℕ, ◌≤◌, ◌<◌}
 use native.Mathlib.Omega.{arith}
 use lib.ListN.{length}
+use lib.Seq.{length-take-le}
 use Rattle.geometry.specs.Rectangle.{has_area}
 use Rattle.link_forest.specs.Forest.{Forest, has}
 use Rattle.link_forest.proofs.Rep.{rep_times}
+use Rattle.index_types.specs.declared.Slot.{Slot}
 use Rattle.index_sound.specs.Sound.{SoundOf}
 use Rattle.index_sound.proofs.Exact.{worded}
+use Rattle.index_commit.proofs.Loop.{commit_bare}
 use Rattle.tree_state.specs.declared.Pending.{Pending}
 use Rattle.tree_state.specs.declared.Tree.{Tree}
 use Rattle.tree_state.specs.Tree.{live_slots, committed_at, key_at, stored_bounds, entry_mark, needs_commit}
 use Rattle.tree_state.specs.Sound.{SoundTree, Owns, Live, count_of, committed_nodes}
-use Rattle.tree_state.specs.Whole.{Whole, WholeSlots, WholeLinks, WholeLocals, WholeIndex}
+use Rattle.tree_state.specs.Whole.{Whole, WholeSlots, WholeLinks, WholeIndex}
 use Rattle.tree_laws.proofs.Ground.{Linked, linked, live_has}
 use Rattle.tree_steps.specs.Commit.{visits_of, rework_all, begun, finished, work_for, commit_tree}
 use Rattle.tree_rework.specs.preconditions.Fits.{Ready}
@@ -25,13 +28,18 @@ use Rattle.tree_visits.proofs.Cover.{none_of}
 use Rattle.tree_invariant.proofs.remove.Fold.{no_area}
 use Rattle.agreement.proofs.worlds.Room.{few_entries}
 use Rattle.agreement.proofs.worlds.Fold.{Frame}
-use Rattle.agreement.proofs.worlds.Sound.{Finished, after_low, after_stays, after_from, after_sound, no_mark, finished_sound}
+use Rattle.agreement.proofs.worlds.Sound.{Finished, after_low, after_stays, after_from, after_sound, clean, finished_sound}
 use Rattle.tree_invariant.proofs.commit.Filed.{FiledTree, filed_sound}
 use Rattle.tree_invariant.proofs.commit.Turn.{Before}
 use Rattle.tree_invariant.proofs.commit.Fold.{all_fit, all_done, all_stay, all_committed, all_frame}
-use Rattle.tree_invariant.proofs.commit.Sizes.{whole_commit, count_more, length_rects}
+use Rattle.tree_invariant.proofs.commit.Sizes.{whole_commit, count_more}
 
 -- ---- before the first turn
+
+-- the pending rectangles
+pub begun_many : (t : Tree) → Whole t → SoundTree t → length (begun t).damage ≡ t.pending.count
+begun_many t W S = length-take-le t.pending.count t.pending.rects (omega (arith, W.pending, S.pending_fits))
+
 module _ (t : Tree) (f : Forest) (W : Whole t) (S : SoundTree t) (L : Linked t f) where
   abbrev slots : List ℕ
   slots = slots_at t.links.order (visits_of t)
@@ -50,7 +58,7 @@ module _ (t : Tree) (f : Forest) (W : Whole t) (S : SoundTree t) (L : Linked t f
         once = λ y. omega (arith, slots_once t f L y, L.once y);
         same = λ y h. refl;
         room = omega (arith, few_entries t f W S L, visits_few t f L, S.count_fits);
-        damage = omega (arith, length_rects t.pending.rects t.pending.count, S.pending, S.few, few_committed, visits_few t f L, S.count_fits);
+        damage = omega (arith, begun_many t W S, S.pending, S.few, few_committed, visits_few t f L, S.count_fits);
       }
 
   abbrev d : Tree
@@ -89,9 +97,7 @@ module _ (t : Tree) (f : Forest) (W : Whole t) (S : SoundTree t) (L : Linked t f
         links = frame.links;
         locals = frame.locals;
         pending = refl;
-        marked = no_mark 256;
-        transform = no_mark 256;
-        clip = no_mark 256;
+        dirty_is = clean 256;
         committed = λ x h. committed_in x (there x h);
         owns = owns;
         marks = after_low d.index K.index K.counts;
@@ -111,12 +117,13 @@ module _ (t : Tree) (f : Forest) (W : Whole t) (S : SoundTree t) (L : Linked t f
           let c = committed_in x g in
           let H = K.held x g c in
           let B = K.owned.owns x g c in
+          let stays = commit_bare d.index (key_at d x).0 in
           record {
             slot = refl;
             is_entry = H.0;
             unmarked = after_stays d.index K.index K.counts (key_at d x).0 H.1 B.kept;
-            under_key = B.under_key;
-            carries = B.carries;
+            under_key = ap (λ (s : Slot). s.generation) stays ∙ B.under_key;
+            carries = ap (λ (s : Slot). s.payload) stays ∙ B.carries;
           }
 
       owner : (e : ℕ) → e < 512 → (entry_mark (finished d) e ≡ 0 → ⊥) → (x : ℕ) × Live t x × ((key_at (finished d) x).0 ≡ e)
@@ -130,9 +137,9 @@ module _ (t : Tree) (f : Forest) (W : Whole t) (S : SoundTree t) (L : Linked t f
       record {
         slots = subst WholeSlots (sym frame.slots) W.slots;
         links = subst WholeLinks (sym frame.links) W.links;
-        locals = subst WholeLocals (sym frame.locals) W.locals;
+        locals = ap length frame.locals ∙ W.locals;
         worlds = done.worlds;
-        marks = record { marked = refl; transform = refl; clip = refl };
+        marks = refl;
         keys = done.filed.keys;
         pending = ap (λ (q : Pending). length q.rects) frame.pending ∙ W.pending;
         index = whole_commit d.index done.filed.index done.filed.counts;
@@ -148,12 +155,12 @@ pub ready : (t : Tree) → Whole t → SoundTree t → Ready t (begun t).damage 
 ready t W S = let F = linked t W S in ready_in t F.0 W S F.1
 
 -- and so does the commit of its index
-pub index_ready : (t : Tree) → Whole t → SoundTree t → let ix = (rework_all (begun t) (visits_of t)).tree.index in WholeIndex ix × SoundOf ix.mark ix.free ix.frees ix.dirty ix.queued ix.used
+pub index_ready : (t : Tree) → Whole t → SoundTree t → let ix = (rework_all (begun t) (visits_of t)).tree.index in WholeIndex ix × SoundOf ix.entries ix.free ix.frees ix.dirty ix.queued ix.used
 index_ready t W S =
     let F = linked t W S in
     let K = (done t F.0 W S F.1).filed in
     let ix = (rework_all (begun t) (visits_of t)).tree.index in
-    (K.index, worded ix.mark ix.free ix.frees ix.dirty ix.queued ix.used K.index.mark K.index.free K.index.dirty K.counts)
+    (K.index, worded ix.entries ix.free ix.frees ix.dirty ix.queued ix.used K.index.entries K.index.free K.index.dirty K.counts)
 
 -- the rectangles of damage, with those that were pending
 pub few : (t : Tree) → Whole t → SoundTree t → length (commit_tree t).damage ≤ 512

@@ -1,5 +1,5 @@
 -- One turn of a commit: what it needs holds before it, and what it leaves is what the next one needs.
-use mathlib.Core.Path.{◌≡◌, refl, sym, ◌∙◌}
+use mathlib.Core.Path.{◌≡◌, refl, sym, ap, ◌∙◌}
 use mathlib.Core.Bool.{Bool, true, false, cond}
 use mathlib.Core.List.{List, [], ◌∷◌, ◌++◌}
 use Prim.Native.Nat.{ℕ, suc, ◌+◌, ◌≤◌, ◌<◌}
@@ -19,18 +19,20 @@ use Rattle.index_entries.specs.Entries.{stands}
 use Rattle.index_entries.proofs.Finding.{used_unused, used_last}
 use Rattle.index_entries.proofs.Keep.{slot_fits, queue_of, queue_room}
 use Rattle.index_types.specs.declared.Index.{Index}
+use Rattle.index_types.specs.Slots.{entry_in}
 use Rattle.index_state.specs.Index.{slot_of}
 use Rattle.tree_worlds.specs.declared.Placed.{Placed}
+use Rattle.tree_state.specs.declared.WorldNode.{WorldNode}
+use Rattle.tree_state.specs.declared.IndexKey.{IndexKey}
 use Rattle.tree_state.specs.declared.Tree.{Tree}
 use Rattle.tree_state.specs.Tree.{committed_at, key_at, entry_mark, stored_bounds, stored_hit_bounds}
 use Rattle.tree_state.specs.Sound.{count_of}
-use Rattle.tree_state.specs.Whole.{WholeWorlds}
 use Rattle.tree_laws.proofs.Ground.{Linked, small, low, slot_live}
 use Rattle.tree_steps.specs.Commit.{Work, damage_of, enter_index, new_place, new_bounds, new_hit_bounds, rework}
 use Rattle.tree_rework.specs.preconditions.Fits.{Fits}
 use Rattle.tree_visits.proofs.Parents.{slots_at}
-use Rattle.agreement.proofs.worlds.Turn.{whole_worlds, bounds_stay}
-use Rattle.agreement.proofs.worlds.Keyed.{committed_stays}
+use Rattle.agreement.proofs.worlds.Turn.{whole_worlds, world_stays}
+use Rattle.agreement.proofs.worlds.Keyed.{keys_stay}
 use Rattle.tree_invariant.proofs.commit.Filed.{FiledTree, filed_turn, committed_now}
 
 -- ---- the damage of one place: at most its old box, if that has an area, and its new one
@@ -55,15 +57,15 @@ slots_left t x n h true false r = omega arith
 slots_left t x n h false c r =
     let ix = t.index in
     elim (ℕ_discrete ix.frees 0) [
-      | yes e ↦ omega (arith, used_unused ix.generation ix.free ix.frees ix.used e)
-      | no m ↦ omega (arith, used_last ix.generation ix.free ix.frees ix.used m)
+      | yes e ↦ omega (arith, used_unused ix.entries ix.free ix.frees ix.used e)
+      | no m ↦ omega (arith, used_last ix.entries ix.free ix.frees ix.used m)
     ]
 
 -- ---- what holds before the places vs are reworked; c tells which nodes were committed at the start
 pub record Before (c : ℕ → Bool) (f : Forest) (k : Work) (vs : List ℕ) : Type 0 where
   pub links : Linked k.tree f
   pub filed : FiledTree k.tree f
-  pub worlds : WholeWorlds k.tree.worlds
+  pub worlds : length k.tree.worlds ≡ 256
   pub no_box : (x : ℕ) → has x f ≡ true → committed_at k.tree x ≡ false → has_area (stored_bounds k.tree x) ≡ false
   pub inside : (i : ℕ) → 1 ≤ times i vs → i < k.tree.links.count
   pub once : (y : ℕ) → times y (slots_at k.tree.links.order vs) ≤ 1
@@ -103,13 +105,13 @@ module _ (c : ℕ → Bool) (f : Forest) (k : Work) (i : ℕ) (vs : List ℕ) (B
       let C = B.filed.counts in
       let W = B.filed.index in
       let r = B.room in
-      slot_fits ix.mark ix.free ix.frees ix.dirty ix.queued ix.used C W.mark W.free W.dirty (λ e. omega arith)
+      slot_fits ix.entries ix.free ix.frees ix.dirty ix.queued ix.used C W.entries W.free W.dirty (λ e. omega arith)
 
   queue_left : (e : ℕ) → e < 512 → stands e ix.dirty ix.queued ≡ false → ix.queued < 512
   queue_left e l =
       let C = B.filed.counts in
       let W = B.filed.index in
-      queue_room ix.dirty ix.queued (queue_of ix.mark ix.free ix.frees ix.dirty ix.queued ix.used C W.mark) W.dirty e l
+      queue_room ix.dirty ix.queued (queue_of ix.entries ix.free ix.frees ix.dirty ix.queued ix.used C W.entries) W.dirty e l
 
   as_before : committed_at t x ≡ c x
   unfolding times
@@ -134,7 +136,7 @@ module _ (c : ℕ → Bool) (f : Forest) (k : Work) (i : ℕ) (vs : List ℕ) (B
         slot_queued = λ e s. queue_left (slot_of ix) slot_there s;
         key_lives = λ e.
             let H = B.filed.held x live e in
-            rw (lt-ltb (key_at t x).0 512 H.0, ne_eqb (entry_mark t (key_at t x).0) 0 H.1, eq-eqb (get_or ix.generation (key_at t x).0 0) (key_at t x).1 (B.filed.owned.owns x live e).under_key);
+            rw (lt-ltb (key_at t x).0 512 H.0, ne_eqb (entry_mark t (key_at t x).0) 0 H.1, eq-eqb (entry_in ix.entries (key_at t x).0).generation (key_at t x).1 (B.filed.owned.owns x live e).under_key);
         key_queued = λ e s. queue_left (key_at t x).0 (B.filed.held x live e).0 s;
         damage_fits = rw length-append (omega (arith, damaged, B.damage));
       }
@@ -146,7 +148,7 @@ module _ (c : ℕ → Bool) (f : Forest) (k : Work) (i : ℕ) (vs : List ℕ) (B
 
   others : (y : ℕ) → (y ≡ x → ⊥) → committed_at (rework k i).tree y ≡ committed_at t y
   unfolding rework
-  others y n = committed_stays t x y n (committed_at t x)
+  others y n = ap (λ (i : IndexKey). i.committed) (keys_stay t x y n (committed_at t x))
 
   pub turn_stays : (y : ℕ) → committed_at t y ≡ true → committed_at (rework k i).tree y ≡ true
   turn_stays y e = elim (ℕ_discrete y x) [ yes q ↦ rw q turn_now | no n ↦ others y n ∙ e ]
@@ -166,7 +168,7 @@ module _ (c : ℕ → Bool) (f : Forest) (k : Work) (i : ℕ) (vs : List ℕ) (B
         worlds = whole_worlds t x w B.worlds below;
         no_box = λ y h e. elim (ℕ_discrete y x) [
           | yes q ↦ never turn_now (rw q at e)
-          | no n ↦ rw (bounds_stay t x w y n) (B.no_box y h (sym (others y n) ∙ e))
+          | no n ↦ ap (λ (v : WorldNode). has_area v.bounds) (world_stays t x w y n) ∙ B.no_box y h (sym (others y n) ∙ e)
         ];
         inside = λ j l. B.inside j (omega arith);
         once = λ y. omega (arith, B.once y);

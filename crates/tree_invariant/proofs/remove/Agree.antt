@@ -1,4 +1,6 @@
 -- An accepted remove keeps the agreement of a tree and a plan.
+use Rattle.index_types.specs.declared.Slot.{Slot}
+use Rattle.index_types.specs.Slots.{entry_in}
 use Rattle.std.specs.Prelude.{Ok}
 use mathlib.Core.Path.{◌≡◌, refl, sym, ap, ◌∙◌, subst}
 use mathlib.Core.Bool.{true}
@@ -16,7 +18,6 @@ use Rattle.link_forest.proofs.Holds.{above_remove}
 use Rattle.index_sound.proofs.Exact.{counted}
 use Rattle.index_commit.specs.Agree.{unseen}
 use Rattle.geometry.specs.declared.rect.Rect.{Rect}
-use Rattle.index_types.specs.flat_tables.Tables.{box_at}
 use Rattle.tree_worlds.specs.declared.Placed.{Placed}
 use Rattle.tree_worlds.specs.World.{world_box, hit_box}
 use Rattle.tree_types.specs.Local.{rect_to_aabb}
@@ -33,7 +34,7 @@ use Rattle.plan.specs.Afresh.{placed_on, world_place, world_bounds, world_hit_bo
 use Rattle.agreement.proofs.Same.{Same, Settled, Right, Queued, Backed, Known, entry_of}
 use Rattle.agreement.specs.Afresh.{Alike}
 use Rattle.tree_invariant.proofs.remove.Counts.{joined_same, reverse_append}
-use Rattle.tree_invariant.proofs.remove.Entries.{mark_stays, mark_removed, queued_keys}
+use Rattle.tree_invariant.proofs.remove.Entries.{rest_stays, mark_stays, mark_removed, queued_keys}
 use Rattle.tree_invariant.specs.remove.Removals.{Plain}
 use Rattle.tree_invariant.proofs.remove.Keep as kept
 use Rattle.tree_invariant.proofs.remove.Keep.{node_live}
@@ -48,7 +49,7 @@ module _ (t : Tree) (p : Plan) (K : Known t p) (x : ℕ) (h : has x p.links ≡ 
   abbrev after : Tree
   after = kept.after t K.whole K.sound p.links K.same.links x h
 
-  plain : Plain t.index.mark keys
+  plain : Plain t.index.entries keys
   plain = kept.plain t K.whole K.sound p.links K.same.links x h
 
   whole_after : Whole after
@@ -63,9 +64,12 @@ module _ (t : Tree) (p : Plan) (K : Known t p) (x : ℕ) (h : has x p.links ≡ 
   mark_cases : {A : Type 0} (k : ℕ) → (entry_mark after k ≡ entry_mark t k → A) → (entry_mark after k ≡ 4 → entry_mark t k ≡ 1 → A) → A
   mark_cases k stays goes =
       elim (dec_lt (times k keys) 1) [
-        | yes l ↦ stays (mark_stays t.index.mark keys k (omega arith))
-        | no n ↦ goes (mark_removed t.index.mark keys K.whole.index.mark plain k (omega arith)) (plain.unmarked k (omega arith))
+        | yes l ↦ stays (mark_stays t.index.entries keys k (omega arith))
+        | no n ↦ goes (mark_removed t.index.entries keys K.whole.index.entries plain k (omega arith)) (plain.unmarked k (omega arith))
       ]
+
+  box_stays : (k : ℕ) → (entry_in after.index.entries k).aabb ≡ (entry_in t.index.entries k).aabb
+  box_stays k = ap (λ (e : Slot). e.aabb) (rest_stays t.index.entries keys k)
 
   -- an entry without a mark is not queued
   out : (k : ℕ) → 1 ≤ times k keys → times k (take t.index.queued t.index.dirty) ≡ 0
@@ -79,8 +83,8 @@ module _ (t : Tree) (p : Plan) (K : Known t p) (x : ℕ) (h : has x p.links ≡ 
   queue_is =
       let X = t.index in
       let W = K.whole.index in
-      queued_keys X.free X.frees X.used W.free X.mark X.dirty X.queued keys W.mark W.dirty plain
-      (counted X.mark X.free X.frees X.dirty X.queued X.used W.mark W.free W.dirty K.sound.index) out
+      queued_keys X.free X.frees X.used W.free X.entries X.dirty X.queued keys W.entries W.dirty plain
+      (counted X.entries X.free X.frees X.dirty X.queued X.used W.entries W.free W.dirty K.sound.index) out
 
   -- the plan's entries of what goes are those keys
   keys_are : keys ≡ joined (λ y. numbers (p.entries.entry y)) gone
@@ -92,18 +96,17 @@ module _ (t : Tree) (p : Plan) (K : Known t p) (x : ℕ) (h : has x p.links ≡ 
   queue_after k n =
       let m = rw (queue_is, times_append k (take t.index.queued t.index.dirty) keys) at n in
       elim (dec_lt (times k keys) 1) [
-        | yes l ↦ ap is_removed (mark_stays t.index.mark keys k (omega arith)) ∙ K.queue k (omega arith)
-        | no g ↦ ap is_removed (mark_removed t.index.mark keys K.whole.index.mark plain k (omega arith))
+        | yes l ↦ ap is_removed (mark_stays t.index.entries keys k (omega arith)) ∙ K.queue k (omega arith)
+        | no g ↦ ap is_removed (mark_removed t.index.entries keys K.whole.index.entries plain k (omega arith))
       ]
 
   backed_after : Backed after
   backed_after =
       let B = K.backed in
       record {
-        mark_whole = whole_after.index.mark;
-        present_whole = B.present_whole;
-        boxes_whole = B.boxes_whole;
-        own = λ k e. mark_cases k (λ q. B.own k (sym q ∙ e)) (λ q u. B.own k u);
+        entries_whole = whole_after.index.entries;
+        stored_whole = B.stored_whole;
+        own = λ k e. let H = mark_cases k (λ q. B.own k (sym q ∙ e)) (λ q u. B.own k u) in (H.0, H.1 ∙ sym (box_stays k));
         none = λ k. mark_cases k (λ q. B.none k ∙ ap unseen (sym q)) (λ q u. B.none k ∙ ap unseen u ∙ ap unseen (sym q));
       }
 
@@ -161,7 +164,7 @@ module _ (t : Tree) (p : Plan) (K : Known t p) (x : ℕ) (h : has x p.links ≡ 
             record {
               bounds = B.bounds ∙ bounds_are y g;
               hit_bounds = B.hit_bounds ∙ hit_bounds_are y g;
-              entry = subst (λ (r : Rect). Alike (box_at t.index.aabb (key_at t y).0) (rect_to_aabb r)) (hit_bounds_are y g) B.entry;
+              entry = rw (box_stays (key_at t y).0) (subst (λ (r : Rect). Alike (entry_in t.index.entries (key_at t y).0).aabb (rect_to_aabb r)) (hit_bounds_are y g) B.entry);
             };
       }
 

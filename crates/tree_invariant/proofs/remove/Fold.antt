@@ -1,13 +1,13 @@
--- What removing a list of nodes, one after the other, leaves of the tree's record, table by table.
+-- What removing a list of nodes, one after the other, leaves of the tree's record, part by part.
 use mathlib.Core.Path.{◌≡◌, refl, sym, ap, ◌∙◌}
 use mathlib.Core.Bool.{Bool, true, false}
 use mathlib.Core.List.{List, [], ◌∷◌, ◌++◌}
 use Prim.Native.Nat.{ℕ, suc, ◌+◌}
 use native.Mathlib.Numerals.{add-one}
 use native.Mathlib.Omega.{arith}
-use lib.ListN.{length}
+use lib.ListN.{length, length-set}
 use lib.Seq.{sets}
-use lib.Ieee.{Float, lt}
+use lib.Ieee.{lt}
 use Rattle.numbers.specs.Rounded.{zero}
 use Rattle.numbers.proofs.Order.{lt_alike, lt_alike_right}
 use Rattle.counting.specs.Times.{tally}
@@ -16,14 +16,12 @@ use Rattle.geometry.specs.declared.rect.Rect.{Rect}
 use Rattle.geometry.specs.Rectangle.{has_area, rect_eq}
 use Rattle.geometry.proofs.Records.{rect_edges, area_tells}
 use Rattle.tree_types.specs.Local.{empty_rect}
-use Rattle.node_tables.specs.Tables.{rect_at}
-use Rattle.node_tables.proofs.Laws.{rect_length}
 use Rattle.link_table.specs.declared.Links.{Links}
 use Rattle.index_types.specs.declared.Index.{Index}
 use Rattle.tree_state.specs.declared.Slots.{Slots}
 use Rattle.tree_state.specs.declared.Pending.{Pending}
 use Rattle.tree_state.specs.declared.Tree.{Tree}
-use Rattle.tree_state.specs.Tree.{committed_at, key_at}
+use Rattle.tree_state.specs.Tree.{committed_at, key_at, stored_bounds}
 use Rattle.tree_state.specs.Sound.{count_of}
 use Rattle.tree_steps.specs.Structure.{push_rect, remove_entry, free_slot, remove_all, with_links}
 use Rattle.plan.specs.Lists.{joined}
@@ -51,24 +49,24 @@ free_all_lem s (x ∷ xs) =
 -- ---- pending rectangles
 
 push_length : (b : Bool) (p : Pending) (r : Rect) → length (push_rect b p r).rects ≡ length p.rects
-push_length true p r = rect_length p.rects p.count r
+push_length true p r = length-set p.rects p.count r
 push_length false p r = refl
 
 pub push_count : (b : Bool) (p : Pending) (r : Rect) → (push_rect b p r).count ≡ p.count + tally b
 push_count true p r = refl
 push_count false p r = omega arith
 
-module _ (bounds : List Float) where
+module _ (bounds : ℕ → Rect) where
   pub pending_length : (p : Pending) (xs : List ℕ) → length (pending_all bounds p xs).rects ≡ length p.rects
   pending_length p [] = refl
   pending_length p (x ∷ xs) =
-      pending_length (push_rect (has_area (rect_at bounds x)) p (rect_at bounds x)) xs ∙ push_length (has_area (rect_at bounds x)) p (rect_at bounds x)
+      pending_length (push_rect (has_area (bounds x)) p (bounds x)) xs ∙ push_length (has_area (bounds x)) p (bounds x)
 
-  pub pending_count : (p : Pending) (xs : List ℕ) → (pending_all bounds p xs).count ≡ p.count + count_of (λ y. has_area (rect_at bounds y)) xs
+  pub pending_count : (p : Pending) (xs : List ℕ) → (pending_all bounds p xs).count ≡ p.count + count_of (λ y. has_area (bounds y)) xs
   unfolding count_of
   pending_count p [] = omega arith
   pending_count p (x ∷ xs) =
-      omega (arith, pending_count (push_rect (has_area (rect_at bounds x)) p (rect_at bounds x)) xs, push_count (has_area (rect_at bounds x)) p (rect_at bounds x))
+      omega (arith, pending_count (push_rect (has_area (bounds x)) p (bounds x)) xs, push_count (has_area (bounds x)) p (bounds x))
 
 -- a box that equals the zero box as numbers has no area
 not_below : lt zero zero ≡ false
@@ -111,7 +109,7 @@ made t l gone s ix =
       worlds = t.worlds;
       marks = t.marks;
       keys = t.keys;
-      pending = pending_all t.worlds.bounds t.pending gone;
+      pending = pending_all (stored_bounds t) t.pending gone;
       index = ix;
     }
 
@@ -131,12 +129,12 @@ walked t (x ∷ gone) =
       worlds = t.worlds;
       marks = t.marks;
       keys = t.keys;
-      pending = push_rect (has_area (rect_at t.worlds.bounds x)) t.pending (rect_at t.worlds.bounds x);
+      pending = push_rect (has_area (stored_bounds t x)) t.pending (stored_bounds t x);
       index = remove_entry (committed_at t x) t.index (key_at t x).0;
     })
     gone
 
-pub removes : (t : Tree) (l : Links) (gone : List ℕ) → Plain t.index.mark (gone_keys t gone) → with_links (remove_all t gone) l ≡ left t l gone
+pub removes : (t : Tree) (l : Links) (gone : List ℕ) → Plain t.index.entries (gone_keys t gone) → with_links (remove_all t gone) l ≡ left t l gone
 removes t l gone P =
     ap (λ (u : Tree). with_links u l) (walked t gone)
     ∙ ap (λ (s : Slots). made t l gone s (entries_all (committed_at t) (λ y. (key_at t y).0) t.index gone)) (free_all_lem t.slots gone)

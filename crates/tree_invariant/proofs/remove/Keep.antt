@@ -15,7 +15,7 @@ use Rattle.counting.proofs.Counting.{times_append, shorter}
 use Rattle.counting.proofs.Kit.{contra}
 use Rattle.geometry.specs.Rectangle.{has_area}
 use Rattle.index_types.specs.declared.NodeId.{NodeId}
-use Rattle.node_tables.specs.Tables.{rect_at}
+use Rattle.index_types.specs.declared.Slot.{Slot}
 use Rattle.link_forest.specs.Forest.{Forest, post, has, count, remove, part}
 use Rattle.link_forest.proofs.Counting.{count_has, has_count, count_parts, count_post}
 use Rattle.link_forest.proofs.Rep.{rep_times}
@@ -27,14 +27,14 @@ use Rattle.tree_state.specs.declared.Tree.{Tree}
 use Rattle.tree_state.specs.declared.Refusal.{Refusal}
 use Rattle.tree_state.specs.declared.Refusal.TheVariants as no
 use Rattle.tree_state.specs.Tree as tree
-use Rattle.tree_state.specs.Tree.{live_slots, position_of, is_live, local_at, committed_at, key_at, entry_mark, is_removed, checked, Verdict}
+use Rattle.tree_state.specs.Tree.{live_slots, position_of, is_live, local_at, committed_at, key_at, stored_bounds, entry_mark, is_removed, checked, Verdict}
 use Rattle.tree_state.specs.Sound.{Live, Owns, SoundTree, count_of, owner_of, removed_entries, committed_nodes}
 use Rattle.tree_steps.specs.Setters.{held, of_node}
 use Rattle.tree_steps.specs.Structure.{remove_all, with_links, remove_tree}
 use Rattle.tree_state.specs.Whole.{Whole}
 use Rattle.tree_laws.proofs.Ground.{Linked, linked, live_has, segment, subtree_post}
 use Rattle.tree_invariant.proofs.remove.Counts.{count_rest, count_fewer, keys_length, keys_has, keys_times, keys_owner, take_sets}
-use Rattle.tree_invariant.proofs.remove.Entries.{marks_length, mark_stays, mark_removed, removed_more, queue_length, keep_keys}
+use Rattle.tree_invariant.proofs.remove.Entries.{marks_length, rest_stays, mark_stays, mark_removed, removed_more, queue_length, keep_keys}
 use Rattle.tree_invariant.specs.remove.Removals.{Plain}
 use Rattle.tree_invariant.proofs.remove.Fold.{pending_length, pending_count, no_area, gone_keys, left, removes}
 
@@ -82,7 +82,7 @@ module _ (t : Tree) (w : Whole t) (S : SoundTree t) (f : Forest) (L : Linked t f
   keys_few : (k : ℕ) → times k keys ≤ times (owner_of t k) gone
   keys_few k = keys_times (committed_at t) (λ y. (key_at t y).0) (owner_of t) k gone (λ y n. owner_back y (gone_has y n))
 
-  pub plain : Plain t.index.mark keys
+  pub plain : Plain t.index.entries keys
   plain =
       record {
         low = λ k n. let o = owner k n in rw (← o.3) (owns k n).is_entry;
@@ -150,7 +150,7 @@ module _ (t : Tree) (w : Whole t) (S : SoundTree t) (f : Forest) (L : Linked t f
 
   pub removed_after : removed_entries after ≡ removed_entries t + committed_gone
   removed_after =
-      omega (arith, removed_more t.index.mark keys w.index.mark plain, keys_length (committed_at t) (λ y. (key_at t y).0) gone)
+      omega (arith, removed_more t.index.entries keys w.index.entries plain, keys_length (committed_at t) (λ y. (key_at t y).0) gone)
 
   committed_after : committed_nodes after + committed_gone ≡ committed_nodes t
   committed_after =
@@ -159,11 +159,11 @@ module _ (t : Tree) (w : Whole t) (S : SoundTree t) (f : Forest) (L : Linked t f
   -- a node without an entry has no area
   pending_after : after.pending.count ≤ t.pending.count + committed_gone
   pending_after =
-      omega (arith, pending_count t.worlds.bounds t.pending gone, count_fewer (λ y. has_area (rect_at t.worlds.bounds y)) (committed_at t) gone (λ y n a. at y n a (committed_at t y) refl))
+      omega (arith, pending_count (stored_bounds t) t.pending gone, count_fewer (λ y. has_area (stored_bounds t y)) (committed_at t) gone (λ y n a. at y n a (committed_at t y) refl))
     where
-      at : (y : ℕ) → 1 ≤ times y gone → has_area (rect_at t.worlds.bounds y) ≡ true → (b : Bool) → committed_at t y ≡ b → b ≡ true
+      at : (y : ℕ) → 1 ≤ times y gone → has_area (stored_bounds t y) ≡ true → (b : Bool) → committed_at t y ≡ b → b ≡ true
       at y n a true c = refl
-      at y n a false c = absurd (no_area (rect_at t.worlds.bounds y) (S.uncommitted y (live_of y (gone_has y n)) c).no_box a)
+      at y n a false c = absurd (no_area (stored_bounds t y) (S.uncommitted y (live_of y (gone_has y n)) c).no_box a)
 
   -- ---- the whole
 
@@ -176,19 +176,13 @@ module _ (t : Tree) (w : Whole t) (S : SoundTree t) (f : Forest) (L : Linked t f
         worlds = w.worlds;
         marks = w.marks;
         keys = w.keys;
-        pending = pending_length t.worlds.bounds t.pending gone ∙ w.pending;
+        pending = pending_length (stored_bounds t) t.pending gone ∙ w.pending;
         index =
             record {
-              generation = w.index.generation;
-              mark = marks_length t.index.mark keys ∙ w.index.mark;
-              payload = w.index.payload;
-              aabb = w.index.aabb;
-              kept = w.index.kept;
-              prev = w.index.prev;
+              entries = marks_length t.index.entries keys ∙ w.index.entries;
               free = w.index.free;
               dirty = queue_length t.index.dirty t.index.queued keys ∙ w.index.dirty;
-              present = w.index.present;
-              boxes = w.index.boxes;
+              stored = w.index.stored;
             };
       }
 
@@ -197,9 +191,9 @@ module _ (t : Tree) (w : Whole t) (S : SoundTree t) (f : Forest) (L : Linked t f
       record {
         slot = O.slot;
         is_entry = O.is_entry;
-        unmarked = mark_stays t.index.mark keys k z ∙ O.unmarked;
-        under_key = O.under_key;
-        carries = O.carries;
+        unmarked = mark_stays t.index.entries keys k z ∙ O.unmarked;
+        under_key = ap (λ (e : Slot). e.generation) (rest_stays t.index.entries keys k) ∙ O.under_key;
+        carries = ap (λ (e : Slot). e.payload) (rest_stays t.index.entries keys k) ∙ O.carries;
       }
 
   owned_after : (k : ℕ) → k < 512 → (entry_mark after k ≡ 0 → ⊥) → is_removed (entry_mark after k) ≡ false → (y : ℕ) × Live after y × (committed_at after y ≡ true) × Owns after y k
@@ -207,7 +201,7 @@ module _ (t : Tree) (w : Whole t) (S : SoundTree t) (f : Forest) (L : Linked t f
       elim (dec_lt (times k keys) 1) [
         | yes l ↦
             let z : times k keys ≡ 0 = omega arith in
-            let e : entry_mark after k ≡ entry_mark t k = mark_stays t.index.mark keys k z in
+            let e : entry_mark after k ≡ entry_mark t k = mark_stays t.index.entries keys k z in
             let O = S.owned k low (λ q. held (e ∙ q)) (ap is_removed (sym e) ∙ stays) in
             let y = O.0 in
             let g : has y f ≡ true = sym (live_has t f L y) ∙ O.1 in
@@ -220,17 +214,17 @@ module _ (t : Tree) (w : Whole t) (S : SoundTree t) (f : Forest) (L : Linked t f
             ] in
             (y, after_live y (rest_in y g out), O.2, owns_after y k z O.3)
         | no n ↦
-            let e : entry_mark after k ≡ 4 = mark_removed t.index.mark keys w.index.mark plain k (omega arith) in
+            let e : entry_mark after k ≡ 4 = mark_removed t.index.entries keys w.index.entries plain k (omega arith) in
             absurd (contra (ap is_removed e) stays)
       ]
 
-  index_after : SoundOf after.index.mark after.index.free after.index.frees after.index.dirty after.index.queued after.index.used
+  index_after : SoundOf after.index.entries after.index.free after.index.frees after.index.dirty after.index.queued after.index.used
   index_after =
       let X = t.index in
       let I = whole_after.index in
-      worded after.index.mark X.free X.frees after.index.dirty after.index.queued X.used I.mark I.free I.dirty
-      (keep_keys X.free X.frees X.used w.index.free X.mark X.dirty X.queued keys w.index.mark w.index.dirty plain
-      (counted X.mark X.free X.frees X.dirty X.queued X.used w.index.mark w.index.free w.index.dirty S.index))
+      worded after.index.entries X.free X.frees after.index.dirty after.index.queued X.used I.entries I.free I.dirty
+      (keep_keys X.free X.frees X.used w.index.free X.entries X.dirty X.queued keys w.index.entries w.index.dirty plain
+      (counted X.entries X.free X.frees X.dirty X.queued X.used w.index.entries w.index.free w.index.dirty S.index))
 
   pub sound_after : SoundTree after
   unfolding local_at

@@ -7,8 +7,7 @@ use native.Mathlib.Omega.{arith}
 use native.Mathlib.Decide.{ℕ_discrete, dec_lt}
 use borrow.Author.Tests.{eq-eqb, not-true}
 use lib.Dec.{eqb, ltb}
-use lib.ListN.{length, get_or, length-append, length-map}
-use lib.Ieee.{Float}
+use lib.ListN.{length, length-append, length-map}
 use Rattle.numbers.proofs.Bools.{and_left, and_right}
 use Rattle.counting.specs.Times.{tally, times}
 use Rattle.counting.proofs.Counting.{hit, miss, times_append, shorter}
@@ -18,8 +17,10 @@ use Rattle.geometry.specs.declared.rect.Rect.{Rect}
 use Rattle.geometry.specs.Rectangle.{rect}
 use Rattle.index_types.specs.declared.Aabb2D.{Aabb2D}
 use Rattle.index_types.specs.declared.NodeId.{NodeId}
+use Rattle.index_types.specs.declared.Index.{Index}
+use Rattle.index_types.specs.Slots.{entry, stored}
 use Rattle.index_types.specs.Boxes.{aabb, contains_point, overlaps}
-use Rattle.index_types.specs.flat_tables.Tables.{box_at, put_id}
+use Rattle.index_types.specs.rooms.Tables.{put_id}
 use Rattle.index_types.proofs.rooms.Rooms.{front_one, front_none}
 use Rattle.tree_types.specs.declared.NodeFlags.{NodeFlags}
 use Rattle.tree_types.specs.Local.{has_all, rect_to_aabb}
@@ -72,12 +73,12 @@ module _ (t : Tree) (H : Held t) (q : needs_commit t ≡ false) where
         rw (ap (λ (i : NodeId). i.0) W.3.carries) W.3.slot
 
 -- a visited entry is in use
-pub visits_used : (present : List ℕ) (boxes : List Float) (mark : List ℕ) (rect : Aabb2D) (k : ℕ) → visits present boxes mark rect k ≡ true → get_or mark k 0 ≡ 0 → ⊥
-visits_used present boxes mark rect k e z =
-    let m = not (eqb (get_or mark k 0) 0) in
-    let o = overlaps (box_at boxes k) rect in
-    let f : m ≡ true = and_left m o (and_right (not (eqb (get_or present k 0) 0)) (m && o) e) in
-    contra (eq-eqb (get_or mark k 0) 0 z) (not-true (eqb (get_or mark k 0) 0) f)
+pub visits_used : (ix : Index) (rect : Aabb2D) (k : ℕ) → visits ix rect k ≡ true → (entry ix k).mark ≡ 0 → ⊥
+visits_used ix rect k e z =
+    let m = not (eqb (entry ix k).mark 0) in
+    let o = overlaps (stored ix k).aabb rect in
+    let f : m ≡ true = and_left m o (and_right (not (eqb (stored ix k).present 0)) (m && o) e) in
+    contra (eq-eqb (entry ix k).mark 0 z) (not-true (eqb (entry ix k).mark 0) f)
 
 -- ---- which nodes are listed
 
@@ -224,15 +225,15 @@ module _ (t : Tree) where
   module _ (rect : Aabb2D) where
     -- a visited entry is in use, so its node is live
     seen_used : (k : ℕ) → visited t rect k ≡ true → entry_mark t k ≡ 0 → ⊥
-    seen_used k = visits_used t.index.backend.present t.index.backend.boxes t.index.mark rect k
+    seen_used k = visits_used t.index rect k
 
     pub seen_live : Asked t → (k : ℕ) → k < 512 → visited t rect k ≡ true → Live t (node_of t k)
     seen_live A k h e = carries_live t A.held A.no_need k h (seen_used k e)
 
     module _ (asked : NodeFlags) where
       -- an empty slot is not taken
-      pub not_taken : (k : ℕ) → get_or t.index.mark k 0 ≡ 0 → takes t asked rect k ≡ false
-      not_taken k z = unmet (not (eqb (get_or t.index.backend.present k 0) 0)) (not (eqb (get_or t.index.mark k 0) 0)) _ _ (rw z)
+      pub not_taken : (k : ℕ) → (entry t.index k).mark ≡ 0 → takes t asked rect k ≡ false
+      not_taken k z = unmet (not (eqb (stored t.index k).present 0)) (not (eqb (entry t.index k).mark 0)) _ _ (rw z)
 
       taken_seen : (k : ℕ) → takes t asked rect k ≡ true → visited t rect k ≡ true
       taken_seen k e = and_left (visited t rect k) (meets t asked rect (node_of t k)) e
@@ -278,4 +279,4 @@ module _ (t : Tree) where
       let given : ℕ → Bool = λ x. flags x && overlaps (box x) (aabb pt.x pt.y pt.x pt.y) in
       ap (map (id_at t))
       (keep_same point given (λ x. ap (λ (b : Bool). flags x && b) (point_rect (box x) pt.x pt.y)) (payloads t (point_slots t.index pt.x pt.y))
-      ∙ ap (λ (l : List ℕ). keep_of given (payloads t l)) (sym (point_slots_lem t.index.backend.present t.index.backend.boxes t.index.mark pt.x pt.y)))
+      ∙ ap (λ (l : List ℕ). keep_of given (payloads t l)) (sym (point_slots_lem t.index pt.x pt.y)))

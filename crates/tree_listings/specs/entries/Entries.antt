@@ -1,8 +1,8 @@
 -- What a listing takes of the entries.
+use Rattle.index_types.specs.Slots.{entry}
 use Rattle.std.specs.Prelude.{Bool, ◌&&◌, ℕ}
 use Rattle.index_types.specs.declared.Aabb2D.{Aabb2D}
 use Rattle.index_types.specs.Boxes.{overlaps}
-use Rattle.index_types.specs.flat_tables.Tables as cell
 use Rattle.tree_types.specs.declared.NodeFlags.{NodeFlags}
 use Rattle.tree_types.specs.Local.{has_all, rect_to_aabb}
 use Rattle.index_query.specs.Query.{visits}
@@ -11,10 +11,10 @@ use Rattle.tree_state.specs.Tree.{local_at, stored_bounds}
 
 -- the slot of the node that an entry carries
 abbrev pub node_of : Tree → ℕ → ℕ
-node_of t k = (cell.id_at t.index.payload k).0
+node_of t k = (entry t.index k).payload.0
 
 abbrev pub visited : Tree → Aabb2D → ℕ → Bool
-visited t rect k = visits t.index.backend.present t.index.backend.boxes t.index.mark rect k
+visited t rect k = visits t.index rect k
 
 -- a node has all asked flags, and its world box meets the rectangle
 abbrev pub meets : Tree → NodeFlags → Aabb2D → ℕ → Bool

@@ -8,22 +8,21 @@ use Rattle.geometry.specs.Rectangle.{rect_eq, finite_rect, finite_insets}
 use Rattle.geometry.specs.Transform.{finite_affine}
 use Rattle.geometry_clips.specs.Clips.{clip_rect, clip_radii, finite_clip, finite_clip_rect}
 use Rattle.geometry_clips.specs.constructed.Constructed.{as_constructed}
-use Rattle.index_types.specs.flat_tables.Tables as cells
 use Rattle.counting.specs.Times.{times, every}
 use Rattle.counting.specs.Lists.{once_below}
 use Rattle.link_forest.specs.Table.{index_of, depths_from}
 use Rattle.index_sound.specs.Sound.{sound_of}
 use Rattle.tree_types.specs.Local.{finite_local}
-use Rattle.node_tables.specs.Tables.{rect_at, insets_at, affine_at, clip_at}
-use Rattle.index_state.specs.Index.{fresh_index}
+use Rattle.index_state.specs.Index.{fresh_entry, fresh_index}
 use Rattle.tree_state.specs.declared.Tree.{Tree}
-use Rattle.tree_state.specs.Tree.{fresh_tree, local_at}
+use Rattle.tree_state.specs.Locals.{clip_by}
+use Rattle.tree_state.specs.Tree.{no_dirty, no_key, fresh_tree, local_at}
 use Rattle.tree_state.specs.Sound.{every_of, count_of, count_below, slots_right, node_right, entry_right, counts_right, sound_tree}
 
 -- what the rows compute through
 unfoldable pub computed : Unit {0}
 unfolding sound_tree slots_right once_below every times depths_from sound_of every_of node_right local_at finite_local finite_rect finite_insets finite_affine
-    finite_clip finite_clip_rect clip_rect clip_radii as_constructed rect_eq eq rect_at insets_at affine_at clip_at cells.id_at index_of entry_right counts_right
+    finite_clip finite_clip_rect clip_rect clip_radii as_constructed rect_eq eq clip_by index_of entry_right counts_right
     count_below count_of fresh_tree fresh_index
 computed = tt
 
@@ -39,22 +38,13 @@ tree_of committed entry pending = record {
   links = record { order = replicate 256 0; depth = set (replicate 256 0) 0 1; count = 1 };
   locals = fresh_tree.locals;
   worlds = fresh_tree.worlds;
-  marks = record { marked = set (replicate 256 false) 0 (not committed); transform = set (replicate 256 false) 0 (not committed); clip = set (replicate 256 false) 0 (not committed) };
-  keys = record { committed = set (replicate 256 false) 0 committed; slot = replicate 256 0; generation = set (replicate 256 0) 0 1 };
+  marks = set (replicate 256 no_dirty) 0 (record { marked = not committed; transform = not committed; clip = not committed });
+  keys = set (replicate 256 no_key) 0 (record { committed = committed; key = record { 0 = 0; 1 = 1 } });
   pending = record { rects = fresh_tree.pending.rects; count = pending };
-  index = record {
-    generation = set (replicate 512 0) 0 1;
-    mark = set (replicate 512 0) 0 entry;
-    payload = set (replicate 1024 0) 1 1;
-    aabb = fresh_index.aabb;
-    kept = fresh_index.kept;
-    prev = fresh_index.prev;
+  index = record fresh_index {
+    entries = set fresh_index.entries 0 (record fresh_entry { generation = 1; mark = entry; payload = record { 0 = 0; 1 = 1 } });
     used = 1;
-    free = fresh_index.free;
-    frees = 0;
-    dirty = fresh_index.dirty;
     queued = 1;
-    backend = fresh_index.backend;
   };
 }
 

@@ -6,12 +6,11 @@ use Prim.Native.Nat.{ℕ, zero, suc, ◌+◌, ◌-◌, ◌≤◌, ◌<◌}
 use native.Mathlib.Omega.{arith}
 use borrow.Author.Tests.{ltb-true}
 use lib.Dec.{eqb}
-use lib.ListN.{get_or}
+use Rattle.index_types.specs.Slots.{entry, stored}
 use Rattle.numbers.proofs.Bools.{and_left}
 use Rattle.geometry.specs.declared.point.Point.{Point}
 use Rattle.index_types.specs.declared.Aabb2D.{Aabb2D}
 use Rattle.index_types.specs.Boxes.{aabb, overlaps}
-use Rattle.index_types.specs.flat_tables.Tables.{box_at}
 use Rattle.tree_types.specs.declared.NodeFlags.{NodeFlags}
 use Rattle.index_query.specs.Query.{slots}
 use Rattle.index_query.proofs.Visits.{slots_next, point_slots_lem}
@@ -21,8 +20,8 @@ use Rattle.tree_state.specs.Tree.{position_of}
 use Rattle.tree_state.specs.Sound.{Live}
 use Rattle.tree_steps.specs.Requests.{Best, nobody, keep_of, payloads, fine, next, strongest, hit_node}
 use Rattle.tree_verdicts.specs.Held.{Held, Asked}
-use Rattle.tree_listings.proofs.entries.Entries.{node_of, visited, keep_slots, seen_live}
-use Rattle.tree_taps.specs.fine.Fine.{Shown}
+use Rattle.tree_listings.proofs.entries.Entries.{node_of, visited, visits_used, carries_live, keep_slots}
+use Rattle.tree_taps.specs.fine.Fine.{Shown, Tappable}
 use Rattle.tree_taps.specs.candidates.Candidates.{candidate}
 
 unseen : (p m o f : Bool) → m ≡ false → p && (m && o) && f ≡ false
@@ -40,15 +39,25 @@ module _ (t : Tree) where
   live_shown H x l = record { low = H.low x l; place_fits = ltb-true (position_of t x) t.links.count l }
 
   -- the node of a visited entry
-  pub seen_shown : (here : Aabb2D) → Asked t → (k : ℕ) → k < 512 → visited t here k ≡ true → Shown t (node_of t k)
-  seen_shown here A k h e = live_shown A.held (node_of t k) (seen_live t here A k h e)
+  pub seen_shown : (here : Aabb2D) → Tappable t → (k : ℕ) → k < 512 → visited t here k ≡ true → Shown t (node_of t k)
+  seen_shown here T k h e = T.carried k h (visits_used t.index here k e)
+
+  -- a sound tree that needs no commit
+  pub tappable : Asked t → Tappable t
+  tappable A =
+      let H = A.held in
+      record {
+        ranged = H.ranged;
+        depths = H.whole.links.depth;
+        carried = λ k h n. live_shown H (node_of t k) (carries_live t H A.no_need k h n);
+      }
 
   module _ (asked : NodeFlags) (pt : Point) (here : Aabb2D) where
     abbrev taken : ℕ → Bool
     taken = candidate t asked pt here
 
     -- its node, of a candidate
-    pub taken_shown : Asked t → (k : ℕ) → k < 512 → taken k ≡ true → Shown t (node_of t k)
+    pub taken_shown : Tappable t → (k : ℕ) → k < 512 → taken k ≡ true → Shown t (node_of t k)
     taken_shown A k h e = seen_shown here A k h (and_left (visited t here k) (fine t asked pt (node_of t k)) e)
 
     -- the strongest of the candidates among the first k entries
@@ -70,26 +79,25 @@ module _ (t : Tree) where
         rw (s, map-append (node_of t) (slots k taken) (k ∷ []), strongest_snoc nobody (map (node_of t) (slots k taken)) (node_of t k), ← T)
 
     -- nothing is visited beyond what is used
-    tap_beyond : (b : Best) (u d : ℕ) → ((k : ℕ) → u ≤ k → get_or t.index.mark k 0 ≡ 0) → Tapping b u → Tapping b (u + d)
+    tap_beyond : (b : Best) (u d : ℕ) → ((k : ℕ) → u ≤ k → (entry t.index k).mark ≡ 0) → Tapping b u → Tapping b (u + d)
     tap_beyond b u zero h T = let e : u + 0 ≡ u = omega arith in rw e T
     tap_beyond b u (suc d) h T =
         let x = u + d in
         let e : u + suc d ≡ x + 1 = omega arith in
         rw e
         (tap_past b x
-        (unseen (not (eqb (get_or t.index.backend.present x 0) 0)) (not (eqb (get_or t.index.mark x 0) 0)) (overlaps (box_at t.index.backend.boxes x) here) (fine t asked pt (node_of t x)) (rw (h x (omega arith))))
+        (unseen (not (eqb (stored t.index x).present 0)) (not (eqb (entry t.index x).mark 0)) (overlaps (stored t.index x).aabb here) (fine t asked pt (node_of t x)) (rw (h x (omega arith))))
         (tap_beyond b u d h T))
 
   -- all entries that are used are looked at
-  pub tap_ends : (asked : NodeFlags) (pt : Point) (here : Aabb2D) (b : Best) (k : ℕ) → Held t → here ≡ aabb pt.x pt.y pt.x pt.y → k ≡ t.index.used → Tapping asked pt here b k → b ≡ hit_node t asked pt
+  pub tap_ends : (asked : NodeFlags) (pt : Point) (here : Aabb2D) (b : Best) (k : ℕ) → Tappable t → here ≡ aabb pt.x pt.y pt.x pt.y → k ≡ t.index.used → Tapping asked pt here b k → b ≡ hit_node t asked pt
   unfolding hit_node point_slots
   tap_ends asked pt here b k H g u T =
-      let I = H.sound.index in
       let point = aabb pt.x pt.y pt.x pt.y in
       let d = 512 - k in
-      let e : k + d ≡ 512 = omega (arith, I.used_fits) in
-      let W : Tapping asked pt point b 512 = rw (← e, ← g) (tap_beyond asked pt here b k d (λ j h. I.beyond j (omega arith)) T) in
+      let e : k + d ≡ 512 = omega (arith, H.ranged.used_fits) in
+      let W : Tapping asked pt point b 512 = rw (← e, ← g) (tap_beyond asked pt here b k d (λ j h. H.ranged.beyond j (omega arith)) T) in
       W
       ∙ ap (strongest t nobody)
       (sym (keep_slots (node_of t) (visited t point) (fine t asked pt) 512)
-      ∙ ap (λ (l : List ℕ). keep_of (fine t asked pt) (payloads t l)) (point_slots_lem t.index.backend.present t.index.backend.boxes t.index.mark pt.x pt.y))
+      ∙ ap (λ (l : List ℕ). keep_of (fine t asked pt) (payloads t l)) (point_slots_lem t.index pt.x pt.y))

@@ -12,10 +12,7 @@ use Rattle.geometry.specs.declared.point.Point.{Point}
 use Rattle.tree_state.specs.declared.Tree.{Tree}
 use Rattle.tree_steps.specs.Commit.{ancestors}
 use Rattle.tree_steps.specs.Requests.{in_stored_clips}
-use Rattle.tree_verdicts.specs.Held.{Held}
-use Rattle.tree_verdicts.proofs.nodes.Nodes.{sizes}
-use Rattle.tree_verdicts.proofs.need.Walks.{sound_places}
-use Rattle.tree_taps.specs.fine.Fine.{clip_holds}
+use Rattle.tree_taps.specs.fine.Fine.{clip_holds, Tappable}
 
 -- of the slots and depths of the first j places, those that are less deep than d, the nearest first
 abbrev pub back : ℕ → List ℕ → List ℕ → ℕ → List ℕ
@@ -53,11 +50,7 @@ module _ (d j : ℕ) (xs ds : List ℕ) (pos : 0 < j) (lx : j ≤ length xs) (ld
 
 -- ---- the clips of those that are less deep
 
--- a slot of the tables
-pub low_above : (t : Tree) → Held t → (j : ℕ) → j < t.links.count → get_or t.links.order j 0 < 256
-low_above t H j h = (sound_places t (sizes t H.whole) H.test).2 j h
-
-module _ (t : Tree) (H : Held t) (pt : Point) where
+module _ (t : Tree) (H : Tappable t) (pt : Point) where
   abbrev clips : ℕ → ℕ → Bool
   clips d j = in_stored_clips t (back d t.links.order t.links.depth j) pt
 
@@ -68,7 +61,7 @@ module _ (t : Tree) (H : Held t) (pt : Point) where
   module _ (d j : ℕ) (pos : 0 < j) (fits : j ≤ t.links.count) where
     clips_here : get_or t.links.depth (j - 1) 0 < d → clips d j ≡ clip_holds t pt (get_or t.links.order (j - 1) 0) && clips (get_or t.links.depth (j - 1) 0) (j - 1)
     unfolding in_stored_clips clip_holds
-    clips_here h = ap (λ (l : List ℕ). in_stored_clips t l pt) (turn_here d j t.links.order t.links.depth pos (omega (arith, H.count_fits, H.whole.links.order)) (omega (arith, H.count_fits, H.whole.links.depth)) h)
+    clips_here h = ap (λ (l : List ℕ). in_stored_clips t l pt) (turn_here d j t.links.order t.links.depth pos (omega (arith, H.ranged.count_fits, H.ranged.orders)) (omega (arith, H.ranged.count_fits, H.depths)) h)
 
     pub clips_stop : get_or t.links.depth (j - 1) 0 < d → clip_holds t pt (get_or t.links.order (j - 1) 0) ≡ false → clips d j ≡ false
     clips_stop h e = clips_here h ∙ rw e
@@ -77,4 +70,4 @@ module _ (t : Tree) (H : Held t) (pt : Point) where
     clips_on h e = clips_here h ∙ rw e
 
     pub clips_past : d ≤ get_or t.links.depth (j - 1) 0 → clips d j ≡ clips d (j - 1)
-    clips_past h = ap (λ (l : List ℕ). in_stored_clips t l pt) (turn_past d j t.links.order t.links.depth pos (omega (arith, H.count_fits, H.whole.links.order)) (omega (arith, H.count_fits, H.whole.links.depth)) h)
+    clips_past h = ap (λ (l : List ℕ). in_stored_clips t l pt) (turn_past d j t.links.order t.links.depth pos (omega (arith, H.ranged.count_fits, H.ranged.orders)) (omega (arith, H.ranged.count_fits, H.depths)) h)

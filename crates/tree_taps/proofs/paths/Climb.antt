@@ -13,7 +13,7 @@ use Rattle.numbers.proofs.Bools.{and_left, and_right}
 use Rattle.link_forest.specs.Table.{less_deep, depths_from}
 use Rattle.link_table.proofs.depths.Depths.{depth_small}
 use Rattle.index_types.specs.declared.NodeId.{NodeId}
-use Rattle.index_types.specs.flat_tables.Tables.{put_id}
+use Rattle.index_types.specs.rooms.Tables.{put_id}
 use Rattle.index_types.proofs.rooms.Rooms.{back_one, front_none}
 use Rattle.tree_state.specs.declared.Tree.{Tree}
 use Rattle.tree_state.specs.Tree.{id_at, position_of}

@@ -18,7 +18,6 @@ use Rattle.tree_state.specs.declared.Tree.{Tree}
 use Rattle.tree_state.specs.Tree.{any_of, some, live_slots}
 use Rattle.tree_state.specs.Sound.{every_of, slots_right, node_right, entry_right, counts_right, sound_tree}
 use Rattle.tree_sound.specs.Parts.{Low, Sized}
-use Rattle.tree_sound.proofs.Exact.{decides}
 use Rattle.tree_sound.proofs.Lists.{listed_by}
 
 or_next : (a b c : Bool) → a || (b || c) ≡ a || b || c
@@ -80,7 +79,7 @@ sound_slots t h =
     let X = t.index in
     and_left (slots_right t.links.order t.links.count t.slots.free t.slots.frees t.slots.used)
     (depths_from 0 (take t.links.count t.links.depth)
-    && (sound_of X.mark X.free X.frees X.dirty X.queued X.used
+    && (sound_of X.entries X.free X.frees X.dirty X.queued X.used
     && (every_of (node_right t) (live_slots t) && (every 512 (entry_right t) && counts_right t))))
     h
 
@@ -94,7 +93,3 @@ sound_places t s h =
     let r = and_right (leb S.used 256) (once_below 256 L.order L.count && rest) (sound_slots t h) in
     let G = listed_by t s.order (sym (and_left (once_below 256 L.order L.count) rest r)) in
     (G.fits, G.long, G.low)
-
--- its entries are among the used slots
-pub sound_used : (t : Tree) → Sized t → sound_tree t ≡ true → (t.index.used ≤ 512) × ((k : ℕ) → t.index.used ≤ k → get_or t.index.mark k 0 ≡ 0)
-sound_used t s h = let S = ((decides t s).0 h).index in (S.used_fits, S.beyond)

@@ -21,6 +21,7 @@ use Rattle.tree_sound.proofs.Exact.{decides, live_low}
 use Rattle.tree_steps.specs.Setters.{held, of_node}
 use Rattle.tree_steps.specs.Structure.{parent_live}
 use Rattle.tree_verdicts.specs.Held.{Held, Node}
+use Rattle.tree_verdicts.proofs.need.Walks.{sound_places}
 use Rattle.tree_state.specs.Whole.{Whole}
 
 -- ---- conditions one after the other
@@ -58,7 +59,7 @@ sound_depths t h =
     let X = t.index in
     let a = slots_right t.links.order t.links.count t.slots.free t.slots.frees t.slots.used in
     let b = depths_from 0 (take t.links.count t.links.depth) in
-    let c = sound_of X.mark X.free X.frees X.dirty X.queued X.used && (every_of (node_right t) (live_slots t) && (every 512 (entry_right t) && counts_right t)) in
+    let c = sound_of X.entries X.free X.frees X.dirty X.queued X.used && (every_of (node_right t) (live_slots t) && (every 512 (entry_right t) && counts_right t)) in
     and_left b c (and_right a (b && c) h)
 
 pub sizes : (t : Tree) → Whole t → Sized t
@@ -67,7 +68,7 @@ sizes t w =
       order = w.links.order;
       depth = w.links.depth;
       free = w.slots.free;
-      mark = w.index.mark;
+      entries = w.index.entries;
       entries_free = w.index.free;
       dirty = w.index.dirty;
     }
@@ -77,7 +78,23 @@ module _ (t : Tree) (w : Whole t) where
   sound_held h =
       let s = sizes t w in
       let S = (decides t s).0 h in
-      record { test = h; sound = S; whole = w; listed = record { count_fits = S.count_fits; low = live_low t s S }; count_fits = S.count_fits; depths = sound_depths t h; low = live_low t s S }
+      record {
+        test = h;
+        sound = S;
+        whole = w;
+        listed = record { count_fits = S.count_fits; low = live_low t s S };
+        ranged =
+            record {
+              count_fits = S.count_fits;
+              orders = w.links.order;
+              low = (sound_places t s h).2;
+              used_fits = S.index.used_fits;
+              beyond = S.index.beyond;
+            };
+        count_fits = S.count_fits;
+        depths = sound_depths t h;
+        low = live_low t s S;
+      }
 
   pub held_accepted : held t ≡ Ok tt → Held t
   held_accepted e = sound_held (checked_accepted (Ok tt) (sound_tree t) no.Unsound e).1

@@ -1,4 +1,4 @@
-use Rattle.std.proofs.Common.{◌≤◌, length, ap, sym, ◌∙◌, rules, arith}
+use Rattle.std.proofs.Common.{ap, sym, ◌∙◌, rules, arith}
 use Rattle.link_forest.specs.Table.{nearest}
 use Rattle.link_table.proofs.depths.Depths.{above_stop, above_on, above_none}
 use Rattle.link_table.proofs.Links.parent_at.Goals as goal
@@ -7,17 +7,13 @@ pub returns-then-self-j : goal.returns-then-self-j
 returns-then-self-j c =
     let l = c.args.self.now in
     let j = c.loop-j.j in
-    let lo : j ≤ length l.order = search rules in
-    let ld : j ≤ length l.depth = search rules in
-    sym (ap nearest c.loop-j.invariant ∙ above_stop _ j l.order l.depth (search rules) lo ld c.if-self-j.true)
+    sym (ap nearest c.loop-j.invariant ∙ above_stop _ j l.order l.depth (search rules) (search rules) (search rules) c.if-self-j.true)
 
 pub loop-j-preserved : goal.loop-j-preserved
 loop-j-preserved c =
     let l = c.args.self.now in
     let j = c.loop-j.j in
-    let lo : j ≤ length l.order = search rules in
-    let ld : j ≤ length l.depth = search rules in
-    c.loop-j.invariant ∙ above_on _ j l.order l.depth (search rules) lo ld c.if-self-j.false
+    c.loop-j.invariant ∙ above_on _ j l.order l.depth (search rules) (search rules) (search rules) c.if-self-j.false
 
 pub returns : goal.returns
 returns c =

@@ -6,14 +6,6 @@ use Rattle.link_table.proofs.Links.post_order.Goals as goal
 pub loop-at-init : goal.loop-at-init
 loop-at-init c = (c.told-out, omega arith, post_none c.args.to c.args.self.now.order c.args.self.now.depth c.args.out.now)
 
-pub insert_at-requires : goal.insert_at-requires
-insert_at-requires c =
-    let A = c.args in
-    let e = c.segment_end-end.result in
-    let fits : e ≤ length (take A.to A.self.now.depth) = c.segment_end-end.ensures.1 in
-    let ld : A.to ≤ length A.self.now.depth = search rules in
-    (omega (arith, length-take-le A.to A.self.now.depth ld), omega arith, c.loop-at.invariant.0)
-
 pub loop-at-preserved : goal.loop-at-preserved
 loop-at-preserved c =
     let L = c.loop-at in
@@ -28,6 +20,3 @@ loop-at-preserved c =
     let m : A.to - (L.at - 1) - 1 ≡ A.to - L.at = omega arith in
     let turn = post_turn A.to L.at e X D A.out.now (omega arith) (omega arith) lx ld is (omega (arith, length-take-le A.to D ld)) in
     (c.insert_at.ensures.0, omega arith, rw m at c.insert_at.ensures.1 ∙ ap (λ o. insert_all (A.to - L.at) (e - (L.at - 1) - 1) (get_or X (L.at - 1) 0 ∷ []) o) L.invariant.2 ∙ turn)
-
-pub returns : goal.returns
-returns c = let e : c.loop-at.at ≡ c.args.from = omega arith in rw e at c.loop-at.invariant.2

@@ -3,6 +3,12 @@ use Rattle.sheet_lines.specs.Saturated.{unfit, row, first_fields}
 use Rattle.sheet_reader.specs.Ahead.{ahead}
 use Rattle.sheet_reader.proofs.Turns.{lines_read, line_21, line_22, line_23, line_read}
 use Rattle.sheet_reader.proofs.Reader.lines.Goals as goal
+use Rattle.sheet_reader.proofs.Reader.lines.Goals.{In-Some}
+
+-- the row that is read is the first of what is ahead
+read : (g : _) (c : In-Some g)
+    → row (take g.L.SheetLine.WIDTH c.in-Some.row) (ahead c.line.new.self) ≡ first_fields g.L.SheetLine.WIDTH (ahead c.loop-line.self)
+read g c = rw c.WIDTH.ensures at c.in-Some.ensures.numbers
 
 pub returns-in_default : goal.returns-in_default
 returns-in_default g c =
@@ -20,7 +26,7 @@ returns-then-not-is_in_range g c =
     let M = g.met.L.SheetLine in
     let A = c.args in
     let l = c.loop-line in
-    let e : row (take L.WIDTH c.in-Some.row) (ahead c.line.new.self) ≡ first_fields L.WIDTH (ahead l.self) = rw c.WIDTH.ensures at c.in-Some.ensures.numbers in
+    let e = read g (goal.at.returns-then-not-is_in_range g c).In-Some in
     line_22 L.numbers (L.rule A.places) L.WIDTH (M.wide A.places) M.narrow (λ before. M.blind A.places before c.requires.places) A.first A.count l.line
     l.lines.items (ahead A.self.now) (ahead l.self) c.requires.few l.invariant c.loop-line-test.true c.of_row-found.result c.in-Some.row
     (ahead c.line.new.self) c.of_row-found.ensures e (sym (c.is_in_range.ensures A.places) ∙ c.if-not-is_in_range.true)
@@ -31,7 +37,7 @@ returns-then-not-fits g c =
     let M = g.met.L.SheetLine in
     let A = c.args in
     let l = c.loop-line in
-    let e : row (take L.WIDTH c.in-Some.row) (ahead c.line.new.self) ≡ first_fields L.WIDTH (ahead l.self) = rw c.WIDTH.ensures at c.in-Some.ensures.numbers in
+    let e = read g (goal.at.returns-then-not-fits g c).In-Some in
     let f : c.fits.result ≡ (L.rule A.places).fitting (map L.numbers l.lines.items) (L.numbers c.of_row-found.result) =
     rw c.as_slice.ensures.value at c.fits.ensures in
     line_23 L.numbers (L.rule A.places) L.WIDTH (M.wide A.places) M.narrow (λ before. M.blind A.places before c.requires.places) A.first A.count l.line
@@ -44,7 +50,7 @@ loop-line-preserved g c =
     let M = g.met.L.SheetLine in
     let A = c.args in
     let l = c.loop-line in
-    let e : row (take L.WIDTH c.in-Some.row) (ahead c.line.new.self) ≡ first_fields L.WIDTH (ahead l.self) = rw c.WIDTH.ensures at c.in-Some.ensures.numbers in
+    let e = read g (goal.at.loop-line-preserved g c).In-Some in
     let f : c.fits.result ≡ (L.rule A.places).fitting (map L.numbers l.lines.items) (L.numbers c.of_row-found.result) =
     rw c.as_slice.ensures.value at c.fits.ensures in
     line_read L.numbers (L.rule A.places) L.WIDTH (M.wide A.places) M.narrow (λ before. M.blind A.places before c.requires.places) A.first A.count l.line

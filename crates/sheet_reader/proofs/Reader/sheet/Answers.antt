@@ -4,6 +4,14 @@ use Rattle.sheet_format.specs.Told.{number_of, place_numbers, clip_numbers, tap_
 use Rattle.sheet_reader.specs.Ahead.{ahead}
 use Rattle.sheet_reader.proofs.Whole.{too_long, places_stop, clips_stop, taps_stop, trailing, whole}
 use Rattle.sheet_reader.proofs.Reader.sheet.Goals as goal
+use Rattle.sheet_reader.proofs.Reader.sheet.Goals.{After-len-n, After-len}
+
+-- how many places, and how many with the clips
+placed : (c : After-len-n) → length (map place_numbers c.in_ok-places.places.items) ≡ c.len-n.result
+placed c = length-map c.in_ok-places.places.items place_numbers ∙ sym c.len-n.ensures.value
+
+clipped : (c : After-len) → c.len-n.result + length (map clip_numbers c.in_ok-clips.clips.items) ≡ c.len-n.result + c.len.result
+clipped c = ap (λ k. c.len-n.result + k) (length-map c.in_ok-clips.clips.items clip_numbers ∙ sym c.len.ensures.value)
 
 pub returns-then-left-gt-MOST_BYTES : goal.returns-then-left-gt-MOST_BYTES
 returns-then-left-gt-MOST_BYTES c = too_long (ahead c.args.self) (omega arith)
@@ -19,7 +27,7 @@ returns-in_err-clips c =
     let P = map place_numbers c.in_ok-places.places.items in
     let r = c.in_err-clips.field-0.0 in
     let e : c.from_residual-in_err-clips.result ≡ Err r = search rules in
-    let p = length-map c.in_ok-places.places.items place_numbers ∙ sym c.len-n.ensures.value in
+    let p = placed (goal.at.returns-in_err-clips c).After-len-n in
     rw e (clips_stop (ahead c.args.self) (omega arith) P (ahead c.counted.new.self) c.in_ok-places.ensures c.len-n.result p (number_of r.why) r.line c.in_err-clips.ensures)
 
 pub returns-in_err-taps : goal.returns-in_err-taps
@@ -28,8 +36,8 @@ returns-in_err-taps c =
     let C = map clip_numbers c.in_ok-clips.clips.items in
     let r = c.in_err-taps.field-0.0 in
     let e : c.from_residual-in_err-taps.result ≡ Err r = search rules in
-    let p = length-map c.in_ok-places.places.items place_numbers ∙ sym c.len-n.ensures.value in
-    let q = ap (λ k. c.len-n.result + k) (length-map c.in_ok-clips.clips.items clip_numbers ∙ sym c.len.ensures.value) in
+    let p = placed (goal.at.returns-in_err-taps c).After-len-n in
+    let q = clipped (goal.at.returns-in_err-taps c).After-len in
     rw e
     (taps_stop (ahead c.args.self) (omega arith) P (ahead c.counted.new.self) c.in_ok-places.ensures c.len-n.result p C (ahead c.counted-2.new.self)
     c.in_ok-clips.ensures (c.len-n.result + c.len.result) q (number_of r.why) r.line c.in_err-taps.ensures)
@@ -39,8 +47,8 @@ returns-then-left-gt0 c =
     let P = map place_numbers c.in_ok-places.places.items in
     let C = map clip_numbers c.in_ok-clips.clips.items in
     let U = map tap_numbers c.in_ok-taps.taps.items in
-    let p = length-map c.in_ok-places.places.items place_numbers ∙ sym c.len-n.ensures.value in
-    let q = ap (λ k. c.len-n.result + k) (length-map c.in_ok-clips.clips.items clip_numbers ∙ sym c.len.ensures.value) in
+    let p = placed (goal.at.returns-then-left-gt0 c).After-len-n in
+    let q = clipped (goal.at.returns-then-left-gt0 c).After-len in
     let u = length-map c.in_ok-taps.taps.items tap_numbers ∙ sym c.len-then-left-gt0.ensures.value in
     trailing (ahead c.args.self) (omega arith) P (ahead c.counted.new.self) c.in_ok-places.ensures c.len-n.result p C (ahead c.counted-2.new.self)
     c.in_ok-clips.ensures (c.len-n.result + c.len.result) q U (ahead c.counted-3.new.self) c.in_ok-taps.ensures c.len-then-left-gt0.result u (omega arith)
@@ -50,7 +58,7 @@ returns c =
     let P = map place_numbers c.in_ok-places.places.items in
     let C = map clip_numbers c.in_ok-clips.clips.items in
     let U = map tap_numbers c.in_ok-taps.taps.items in
-    let p = length-map c.in_ok-places.places.items place_numbers ∙ sym c.len-n.ensures.value in
-    let q = ap (λ k. c.len-n.result + k) (length-map c.in_ok-clips.clips.items clip_numbers ∙ sym c.len.ensures.value) in
+    let p = placed (goal.at.returns c).After-len-n in
+    let q = clipped (goal.at.returns c).After-len in
     whole (ahead c.args.self) (omega arith) P (ahead c.counted.new.self) c.in_ok-places.ensures c.len-n.result p C (ahead c.counted-2.new.self)
     c.in_ok-clips.ensures (c.len-n.result + c.len.result) q U (ahead c.counted-3.new.self) c.in_ok-taps.ensures (length U) refl (omega arith)

@@ -5,7 +5,7 @@ use native.Mathlib.Omega.{arith}
 use lib.ListN.{length, replicate, take}
 use Rattle.tree_steps.specs.Commit.{begun, visits_of, rework_all, rects_in_front}
 use Rattle.tree_laws.proofs.Ground.{linked}
-use Rattle.tree_invariant.proofs.commit.Sizes.{length_rects}
+use Rattle.tree_invariant.proofs.commit.Keep.{begun_many}
 use Rattle.tree_commit.proofs.work.Work.{worked, front_none, positions_are, positions_ready, front_same, finish_ready, damage_of, no_damage}
 use Rattle.tree_commit.proofs.work.commit_sound.Goals as goal
 use Rattle.tree_commit.proofs.work.commit_sound.Goals.{After-positions-n, After-rework_all-count}
@@ -24,7 +24,7 @@ pub rework_all-count-requires : goal.rework_all-count-requires
 rework_all-count-requires c =
     let H = c.requires.0 in
     let t = c.args.tree.now in
-    let many : length (begun t).damage ≡ t.pending.count = length_rects t.pending.rects t.pending.count in
+    let many = begun_many t H.whole H.sound in
     let long = front_same (begun t).damage c.args.room.now c.put_pending.new.room c.put_pending.ensures (omega (arith, many, H.sound.pending_fits, c.requires.1)) in
     let P = goal.at.rework_all-count-requires c in (
       omega (arith, long, c.requires.1),
@@ -46,7 +46,7 @@ pub returns-clause-count : goal.returns-clause-count
 returns-clause-count c =
     let t = c.args.tree.now in
     let P = goal.at.returns-clause-count c in
-    let many = length_rects t.pending.rects t.pending.count in
+    let many = let H = c.requires.0 in begun_many t H.whole H.sound in
     let D = c.rework_all-count.ensures.damage (begun t).damage (sym many) in
     rw (damage_of t (sym c.needs_commit-need.ensures ∙ c.if-not-need.false))
     (D.0 ∙ ap (λ (l : List ℕ). length (rework_all (begun t) l).damage) (listed P.After-positions-n))
@@ -55,7 +55,7 @@ pub returns-clause-room : goal.returns-clause-room
 returns-clause-room c =
     let t = c.args.tree.now in
     let P = goal.at.returns-clause-room c in
-    let many = length_rects t.pending.rects t.pending.count in
+    let many = let H = c.requires.0 in begun_many t H.whole H.sound in
     let D = c.rework_all-count.ensures.damage (begun t).damage (sym many) in
     rw (damage_of t (sym c.needs_commit-need.ensures ∙ c.if-not-need.false))
     (D.1 c.args.room.now c.put_pending.ensures ∙ ap (λ (l : List ℕ). rects_in_front (rework_all (begun t) l).damage c.args.room.now) (listed P.After-positions-n))

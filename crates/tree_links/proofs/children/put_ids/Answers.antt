@@ -1,5 +1,5 @@
 use Rattle.std.proofs.Common.{get_or, ap, ◌∙◌, arith}
-use Rattle.index_types.specs.flat_tables.Tables.{put_id}
+use Rattle.index_types.specs.rooms.Tables.{put_id}
 use Rattle.tree_state.specs.Tree.{id_at}
 use Rattle.tree_links.proofs.Found.{front_start, front_next}
 use Rattle.tree_links.proofs.children.put_ids.Goals as goal

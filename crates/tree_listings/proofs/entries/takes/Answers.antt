@@ -8,8 +8,8 @@ bounds-tree-slot c =
     let seen = seen_live t c.args.rect c.requires.1 c.args.entry c.requires.0 (sym c.visited-visited.ensures ∙ c.if-not-visited.false) in
     rw c.node_of-slot.ensures (c.requires.1.held.low (node_of t c.args.entry) seen)
 
-pub rect_at-requires : goal.rect_at-requires
-rect_at-requires c =
+pub bounds-tree-slot-2 : goal.bounds-tree-slot-2
+bounds-tree-slot-2 c =
     let t = c.args.tree.now in
     let seen = seen_live t c.args.rect c.requires.1 c.args.entry c.requires.0 (sym c.visited-visited.ensures ∙ c.if-not-visited.false) in
     rw c.node_of-slot.ensures (c.requires.1.held.low (node_of t c.args.entry) seen)

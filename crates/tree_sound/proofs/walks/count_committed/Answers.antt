@@ -10,7 +10,7 @@ use Rattle.tree_sound.proofs.walks.count_committed.Goals as goal
 pub count-requires-clause-can : goal.count-requires-clause-can
 count-requires-clause-can c =
     let t = c.args.live.now.tree.now in
-    (tt, tt, serves_from_places (YieldsList-at c.filter.ensures.source (YieldsList-from_slice (live_slots t) (cc))) (λ x q r. search rules) (λ x k h e y a _ _ _ _ _ _. rw a (low_at t c.args.live.now.listed k x.now h e)))
+    (tt, tt, serves_from_places (YieldsList-at c.filter.ensures.source (YieldsList-from_slice (live_slots t) (cc))) (λ x q r. search rules) (λ x k h e y a. let b = low_at t c.args.live.now.listed k x.now h e in ((λ _ _ _ _ _. rw a (omega (arith, b))), λ _ _ _ _ _ _. rw a b)))
 
 pub returns : goal.returns
 returns c =

@@ -10,9 +10,9 @@ loop-entry-init c = (tap_none c.args.tree.now c.args.asked c.args.point c.new-he
 pub next-best-requires : goal.next-best-requires
 next-best-requires c =
     let t = c.args.tree.now in
-    let low : c.loop-entry.entry < 512 = omega (arith, c.requires.held.sound.index.used_fits) in
+    let low : c.loop-entry.entry < 512 = omega (arith, c.requires.ranged.used_fits) in
     let shown = taken_shown t c.args.asked c.args.point c.new-here.result c.requires c.loop-entry.entry low (sym c.candidate-take.ensures ∙ c.if-take.true) in
-    rw c.node_of.ensures (shown, c.loop-entry.invariant.1, c.requires.held)
+    rw c.node_of.ensures (shown, c.loop-entry.invariant.1, c.requires)
 
 pub loop-entry-preserved : goal.loop-entry-preserved
 loop-entry-preserved c =
@@ -33,4 +33,4 @@ loop-entry-preserved c =
 pub returns-clause-node : goal.returns-clause-node
 returns-clause-node c =
     let L = c.loop-entry in
-    tap_ends c.args.tree.now c.args.asked c.args.point c.new-here.result (best_of L.best) L.entry c.requires.held c.new-here.ensures (omega arith) L.invariant.0
+    tap_ends c.args.tree.now c.args.asked c.args.point c.new-here.result (best_of L.best) L.entry c.requires c.new-here.ensures (omega arith) L.invariant.0

@@ -1,12 +1,12 @@
 use Rattle.std.proofs.Common.{◌-◌, ◌∙◌, sym, arith}
-use Rattle.tree_taps.proofs.fine.Climb.{ancestors_back, low_above, clips_none, clips_stop, clips_on, clips_past}
+use Rattle.tree_taps.proofs.fine.Climb.{ancestors_back, clips_none, clips_stop, clips_on, clips_past}
 use Rattle.tree_taps.proofs.fine.in_clips.Goals as goal
 
 pub loop-above-init : goal.loop-above-init
 loop-above-init c = rw (ancestors_back c.args.tree.now c.args.at)
 
 pub in_clip-requires : goal.in_clip-requires
-in_clip-requires c = low_above c.args.tree.now c.requires.1 (c.loop-above.above - 1) (omega arith)
+in_clip-requires c = c.requires.1.ranged.low (c.loop-above.above - 1) (omega arith)
 
 pub returns-then-not-in_clip : goal.returns-then-not-in_clip
 returns-then-not-in_clip c =

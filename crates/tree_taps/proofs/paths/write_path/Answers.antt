@@ -1,5 +1,4 @@
 use Rattle.std.proofs.Common.{◌-◌, arith}
-use Rattle.tree_taps.proofs.fine.Climb.{low_above}
 use Rattle.tree_taps.proofs.paths.Climb.{depth_one, depth_most, path_begins, path_written, path_skipped, path_ends, path_deep}
 use Rattle.tree_taps.proofs.paths.write_path.Goals as goal
 
@@ -18,7 +17,7 @@ loop-above-init c =
     (path_begins c.args.tree.now c.requires.1 c.args.room.now c.requires.2 c.args.slot c.position-at.result c.position-at.ensures.1 (omega (arith, c.position-at.ensures.1, c.requires.0.place_fits)))
 
 pub id_at-next-requires : goal.id_at-next-requires
-id_at-next-requires c = low_above c.args.tree.now c.requires.1 (c.loop-above.above - 1) (omega (arith, c.position-at.ensures.1, c.requires.0.place_fits))
+id_at-next-requires c = c.requires.1.ranged.low (c.loop-above.above - 1) (omega (arith, c.position-at.ensures.1, c.requires.0.place_fits))
 
 pub overflow_sub-d : goal.overflow_sub-d
 overflow_sub-d c = depth_one c.args.tree.now c.requires.1 (c.loop-above.above - 1) (omega (arith, c.position-at.ensures.1, c.requires.0.place_fits))

@@ -1,21 +1,19 @@
 use Rattle.std.proofs.Common.{ℕ, ◌≡◌, false, arith, ◌∙◌}
 use Rattle.std.proofs.lemmas.Bool.{lt-leb}
 use Rattle.tree_state.specs.Tree.{needs_commit, is_removed, entry_mark}
-use Rattle.tree_verdicts.proofs.need.Walks.{some_used, sound_used}
-use Rattle.tree_verdicts.proofs.nodes.Nodes.{sizes}
+use Rattle.tree_verdicts.proofs.need.Walks.{some_used}
 use Rattle.tree_verdicts.proofs.need.needs_commit.Goals as goal
 
 pub any_removed-removed-requires : goal.any_removed-removed-requires
-any_removed-removed-requires c = c.requires.sound.index.used_fits
+any_removed-removed-requires c = c.requires.used_fits
 
 pub returns : goal.returns
 unfolding needs_commit
 returns c =
     let t = c.args.tree.now in
-    let u = sound_used t (sizes t c.requires.whole) c.requires.test in
     rw (
       c.any_marked-marked.ensures,
-      c.any_removed-removed.ensures ∙ some_used (λ (k : ℕ). is_removed (entry_mark t k)) t.index.used 512 u.0 (λ k h. unmarked_stays (entry_mark t k) (u.1 k h)),
+      c.any_removed-removed.ensures ∙ some_used (λ (k : ℕ). is_removed (entry_mark t k)) t.index.used 512 c.requires.used_fits (λ k h. unmarked_stays (entry_mark t k) (c.requires.beyond k h)),
     )
   where
     unmarked_stays : (m : ℕ) → m ≡ 0 → is_removed m ≡ false

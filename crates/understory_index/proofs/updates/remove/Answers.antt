@@ -1,9 +1,8 @@
-use Rattle.std.proofs.Common.{sym, ◌∙◌, ap, not}
+use Rattle.std.proofs.Common.{sym, ◌∙◌}
 use Rattle.counting.proofs.Conditions.{passed}
-use Rattle.index_entries.proofs.Finding.{look_live, look_dead, live_slot}
+use Rattle.index_entries.proofs.Finding.{look_live, live_slot}
 use Rattle.index_entries.proofs.Fits.{counts_of, removes}
-use Rattle.index_state.proofs.Calls.{remove_dead, remove_lives, accepts, refuses}
-use Rattle.index_state.specs.Calls.{remove, given, accepted}
+use Rattle.understory_index.proofs.Told.{remove_refused, remove_accepted}
 use Rattle.understory_index.proofs.updates.remove.Goals as goal
 
 -- a live key's slot has its place in the queue, and in the free list
@@ -14,35 +13,22 @@ remove_entry-requires c =
     let lengths = c.is_sound.ensures.lengths in
     let sound = passed c.is_sound.result _ _ c.in_ok-check.ensures in
     let live = (look_live ix k c.in-Some._entry (sym c.look_up.ensures ∙ c.in-Some.is)).0 in
-    let held = live_slot ix.generation ix.mark k live in
+    let held = live_slot ix k live in
     removes ix lengths (counts_of ix lengths (sym c.is_sound.ensures.test ∙ sound)) k.0 held.0 held.1
 
 pub returns-in_default-clause-answer : goal.returns-in_default-clause-answer
 returns-in_default-clause-answer c =
-    let ix = c.args.index.now in
-    let sound = ap not (sym c.is_sound.ensures.test ∙ passed c.is_sound.result _ _ c.in_ok-check.ensures) in
-    let dead = look_dead ix c.args.key (sym c.look_up.ensures ∙ c.in_default.is) in
-    (refuses ix (remove c.args.key) 9 (remove_dead ix sound c.args.key dead)).0
+    (remove_refused c.args.index.now (sym c.is_sound.ensures.test ∙ passed c.is_sound.result _ _ c.in_ok-check.ensures) c.args.key (sym c.look_up.ensures ∙ c.in_default.is)).0
 
 pub returns-in_default-clause-index : goal.returns-in_default-clause-index
 returns-in_default-clause-index c =
-    let ix = c.args.index.now in
-    let sound = ap not (sym c.is_sound.ensures.test ∙ passed c.is_sound.result _ _ c.in_ok-check.ensures) in
-    let dead = look_dead ix c.args.key (sym c.look_up.ensures ∙ c.in_default.is) in
-    (refuses ix (remove c.args.key) 9 (remove_dead ix sound c.args.key dead)).1
+    (remove_refused c.args.index.now (sym c.is_sound.ensures.test ∙ passed c.is_sound.result _ _ c.in_ok-check.ensures) c.args.key (sym c.look_up.ensures ∙ c.in_default.is)).1
 
 pub returns-clause-answer : goal.returns-clause-answer
-unfolding given
 returns-clause-answer c =
-    let ix = c.args.index.now in
-    let sound = ap not (sym c.is_sound.ensures.test ∙ passed c.is_sound.result _ _ c.in_ok-check.ensures) in
-    let live = (look_live ix c.args.key c.in-Some._entry (sym c.look_up.ensures ∙ c.in-Some.is)).0 in
-    (accepts ix (remove c.args.key) (remove_lives ix sound c.args.key live)).0
+    (remove_accepted c.args.index.now (sym c.is_sound.ensures.test ∙ passed c.is_sound.result _ _ c.in_ok-check.ensures) c.args.key c.in-Some._entry (sym c.look_up.ensures ∙ c.in-Some.is)).0
 
 pub returns-clause-index : goal.returns-clause-index
-unfolding accepted
 returns-clause-index c =
-    let ix = c.args.index.now in
-    let sound = ap not (sym c.is_sound.ensures.test ∙ passed c.is_sound.result _ _ c.in_ok-check.ensures) in
-    let live = (look_live ix c.args.key c.in-Some._entry (sym c.look_up.ensures ∙ c.in-Some.is)).0 in
-    c.remove_entry.ensures ∙ (accepts ix (remove c.args.key) (remove_lives ix sound c.args.key live)).1
+    c.remove_entry.ensures
+    ∙ (remove_accepted c.args.index.now (sym c.is_sound.ensures.test ∙ passed c.is_sound.result _ _ c.in_ok-check.ensures) c.args.key c.in-Some._entry (sym c.look_up.ensures ∙ c.in-Some.is)).1

@@ -1,2 +1,0 @@
-pub mod Stride
-pub mod Tables

@@ -1,3 +1,0 @@
-pub mod boxes
-pub mod clip_reads
-pub mod Tables
