@@ -1,9 +1,8 @@
-use Rattle.std.proofs.Common.{◌≡◌, pos, ◌+◌, ℕ, List, length, take, sym, ap, ◌∙◌, subst, arith, rules}
-use lib.Seq.{take-length}
+use Rattle.std.proofs.Common.{pos, ◌+◌, ℕ, List, length, sym, ap, subst, arith}
 use Rattle.sheet_format.specs.declared.TapLine.{TapLine}
 use Rattle.sheet_answers.specs.declared.taps.Answered.{Answered}
 use Rattle.sheet_answers.specs.text.Text.{Stored}
-use Rattle.sheet_answers.proofs.text.Digits.{nothing_stored, room_kept, short_line, all_three}
+use Rattle.sheet_answers.proofs.text.Digits.{nothing_stored, short_line}
 use Rattle.sheet_answers.proofs.tap_lines.Lines.{no_text, one_more}
 use Rattle.sheet_answers.proofs.tap_lines.put_taps.Goals as goal
 
@@ -20,28 +19,6 @@ loop-i-init c =
       stored = subst (λ (l : List ℕ). Stored A.room.now A.room.now A.at A.at l) (sym e) (nothing_stored A.room.now A.at);
     }
 
-pub tapped-hit-requires : goal.tapped-hit-requires
-tapped-hit-requires c = c.requires.ready c.loop-i.i _ c.loop-i-test.true
-
-pub put_line-next-requires : goal.put_line-next-requires
-put_line-next-requires c =
-    let i = c.loop-i.i in
-    let I = c.loop-i.invariant in
-    let h = c.loop-i-test.true in
-    let hit = c.tapped-hit in
-    let r = c.requires.ready i blank h in
-    let few = c.requires.few in (
-      omega arith,
-      (
-        search rules,
-        (
-          all_three (i + 1) hit.result.place hit.result.depth (omega (arith, h, few)) (omega (arith, ap (λ (x : Answered). x.place) hit.ensures, r.place))
-              (omega (arith, ap (λ (x : Answered). x.depth) hit.ensures, r.depth)),
-          omega (arith, h, few, c.requires.long, I.short, I.stored.behind, room_kept I.stored),
-        ),
-      ),
-    )
-
 pub loop-i-preserved : goal.loop-i-preserved
 loop-i-preserved c =
     let A = c.args in
@@ -57,12 +34,3 @@ loop-i-preserved c =
     (omega (arith, ap (λ (x : Answered). x.place) hit.ensures, r.place)) (omega (arith, ap (λ (x : Answered). x.depth) hit.ensures, r.depth)) in
     let m = one_more t A.lines.now i blank h A.room.now L.room w.new.room A.at L.next w.result hit.result hit.ensures L.invariant.short L.invariant.stored short w.ensures in
     record { short = m.0; stored = m.1 }
-
-pub returns : goal.returns
-returns c =
-    let A = c.args in
-    let L = c.loop-i in
-    let e : take L.i A.lines.now ≡ A.lines.now =
-    let n : L.i ≡ length A.lines.now = omega (arith, c.loop-i-test.false, L.auto.i-end) in
-    ap (λ (k : ℕ). take k A.lines.now) n ∙ take-length A.lines.now in
-    rw e at L.invariant.stored
