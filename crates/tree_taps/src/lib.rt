@@ -24,7 +24,7 @@ pub struct Hit {
 }
 
 // The strongest node that the point reaches, if there is one, and its path.
-#[tactic(auto, using(crate::proofs::candidates::Tap::tappable), unfolding(tree_steps::specs::Requests::room_if, tree_state::specs::Tree::value_if, tree_steps::specs::Requests::ids_in_front))]
+#[tactic(auto, using(crate::proofs::candidates::Tap::tappable), unfolding(tree_steps::specs::Requests::room_if, tree_steps::specs::Requests::ids_in_front))]
 pub fn hit_test_point(
     tree: &Tree,
     point: Point,

@@ -23,7 +23,7 @@ use Rattle.tree_state.specs.declared.Pending.{Pending}
 use Rattle.tree_state.specs.declared.Tree.{Tree}
 use Rattle.tree_state.specs.Tree.{committed_at, key_at, stored_bounds}
 use Rattle.tree_state.specs.Sound.{count_of}
-use Rattle.tree_steps.specs.Structure.{push_rect, remove_entry, free_slot, remove_all, with_links}
+use Rattle.tree_steps.specs.Structure.{push_rect, remove_entry, free_slot, remove_node, remove_all, with_links}
 use Rattle.plan.specs.Lists.{joined}
 use Rattle.plan.specs.Plan.{numbers}
 use Rattle.agreement.specs.Read.{entry_if}
@@ -120,19 +120,7 @@ walked : (t : Tree) (gone : List ℕ)
     → remove_all t gone ≡ made t t.links gone (free_all t.slots gone) (entries_all (committed_at t) (λ y. (key_at t y).0) t.index gone)
 unfolding remove_all
 walked t [] = refl
-walked t (x ∷ gone) =
-    walked
-    (record {
-      slots = free_slot t.slots x;
-      links = t.links;
-      locals = t.locals;
-      worlds = t.worlds;
-      marks = t.marks;
-      keys = t.keys;
-      pending = push_rect (has_area (stored_bounds t x)) t.pending (stored_bounds t x);
-      index = remove_entry (committed_at t x) t.index (key_at t x).0;
-    })
-    gone
+walked t (x ∷ gone) = walked (remove_node t x) gone
 
 pub removes : (t : Tree) (l : Links) (gone : List ℕ) → Plain t.index.entries (gone_keys t gone) → with_links (remove_all t gone) l ≡ left t l gone
 removes t l gone P =
