@@ -216,6 +216,11 @@ unfolding joined
 areas_joined g a [] = tt
 areas_joined g a (x ∷ xs) = areas_append (g x) (joined g xs) (a x) (areas_joined g a xs)
 
+pub length_rects : (l : List Float) (n : ℕ) → length (rects_of l n) ≡ n
+unfolding rects_of
+length_rects l zero = refl
+length_rects l (suc n) = rw (length-append, length_rects l n) (omega arith)
+
 areas_read : (l : List Float) (n : ℕ) → Areas (rects_of l n) → (i : ℕ) → i < n → has_area (rect_at l i) ≡ true
 unfolding rects_of
 areas_read l zero a i h = absurd (omega arith)

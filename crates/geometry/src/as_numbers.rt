@@ -1,5 +1,4 @@
 // Equality as numbers, which a derive gives: −0 equals +0, and a NaN equals nothing.
-ghost use Rattle.std.specs.Prelude.{◌≡◌, Bool};
 ghost use Rattle.geometry.specs.Rectangle.{rect_eq, insets_eq};
 ghost use Rattle.geometry.specs.Transform.{affine_eq};
 ghost use Rattle.geometry.specs.Equality.{rect_chain, insets_chain, affine_chain};
@@ -7,13 +6,7 @@ ghost use Rattle.geometry.specs.Equality.{rect_chain, insets_chain, affine_chain
 use crate::affine::Affine;
 use crate::insets::Insets;
 use crate::rect::Rect;
-
-// A type whose == answers what a definition of specs/ says.
-pub trait EqualAsNumbers: PartialEq {
-    ghost equality: { Self → Self → Bool };
-
-    ghost is_equality: { (a b : Self) → Self.eq a b ≡ equality a b };
-}
+pub use numbers::as_numbers::EqualAsNumbers;
 
 impl EqualAsNumbers for Rect {
     ghost equality = { rect_eq };

@@ -1,11 +1,14 @@
--- Equality of clips as numbers is symmetric and transitive, as == must be.
+-- Equality of clips as numbers is symmetric and transitive, as == must be; and what == answers on radii, as the derive computes it.
 use mathlib.Core.Path.{◌≡◌, refl}
 use mathlib.Core.Bool.{Bool, true}
 use Rattle.std.specs.Prelude.{Option, None, Some}
 use Rattle.std.specs.Option.{option_eq}
+use Rattle.std.specs.Prelude.{◌&&◌}
+use Rattle.std.specs.Float.Ieee.{eq}
 use Rattle.std.specs.Cmp.{IsPartialEquivalence, on_per, and_per}
 use Rattle.std.specs.Float.Cmp.{on_floats_per}
 use Rattle.geometry.specs.Rectangle.{rect_eq}
+use Rattle.geometry_clips.specs.declared.rounded_rect_radii.RoundedRectRadii.{RoundedRectRadii}
 use Rattle.geometry_clips.specs.Rects.{clip_rect_eq}
 use Rattle.geometry_clips.specs.Clips.{clip_rect, clip_radii, radii_eq, clip_eq}
 
@@ -34,6 +37,9 @@ pub radii_laws : IsPartialEquivalence radii_eq
 radii_laws =
     and_per (on_floats_per (λ q. q.top_left))
     (and_per (on_floats_per (λ q. q.top_right)) (and_per (on_floats_per (λ q. q.bottom_right)) (on_floats_per (λ q. q.bottom_left))))
+
+pub radii_chain : (r s : RoundedRectRadii) → eq r.top_left s.top_left && (eq r.top_right s.top_right && (eq r.bottom_right s.bottom_right && eq r.bottom_left s.bottom_left)) ≡ radii_eq r s
+radii_chain r s = refl
 
 pub clip_laws : IsPartialEquivalence clip_eq
 unfolding clip_eq clip_rect_eq

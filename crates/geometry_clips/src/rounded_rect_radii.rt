@@ -5,8 +5,11 @@ ghost use Rattle.std.specs.Float.Ieee.{eq};
 ghost use Rattle.std.specs.Float.Ieee.Scale.{finite};
 ghost use Rattle.numbers.specs.Rounded.{zero};
 ghost use Rattle.geometry_clips.specs.rounded_rect_radii.Radii as spec;
+ghost use Rattle.geometry_clips.specs.Clips.{radii_eq};
+ghost use Rattle.geometry_clips.specs.Equality.{radii_chain};
 
 use geometry::rect::Rect;
+use numbers::as_numbers::EqualAsNumbers;
 use numbers::{abs, is_finite, min};
 
 #[derive(Clone, Copy, PartialEq, Default)]
@@ -15,6 +18,12 @@ pub struct RoundedRectRadii {
     pub top_right: f64,
     pub bottom_right: f64,
     pub bottom_left: f64,
+}
+
+impl EqualAsNumbers for RoundedRectRadii {
+    ghost equality = { radii_eq };
+
+    ghost is_equality = { radii_chain };
 }
 
 impl RoundedRectRadii {

@@ -48,9 +48,9 @@ fn refusals(index: &Index, height: f64, start: u64) -> u64 {
 }
 
 // A phase of queries among n entries, eight to a row.
-fn phase<R, F>(rt: &R, name: &str, n: u32, rounds: u32, round: F)
+fn phase<R, F>(rt: &R, name: &[u8], n: u32, rounds: u32, round: F)
 where
-    R: CpuClock + Print + Eprint,
+    R: CpuClock,
     F: Fn(&Index, f64, u64) -> u64,
     requires { F.IsAlwaysCallable round }
 {
@@ -59,13 +59,13 @@ where
     report::phase(rt, name, 64, rounds, 0, |sum, _| round(&index, height, sum));
 }
 
-pub(crate) fn phases<R: CpuClock + Print + Eprint>(rt: &R, rounds: u32) {
-    phase(rt, "point_64", 64, rounds, points);
-    phase(rt, "point_512", 512, rounds, points);
-    phase(rt, "rect_64", 64, rounds, rects);
-    phase(rt, "rect_512", 512, rounds, rects);
+pub(crate) fn phases<R: CpuClock>(rt: &R, rounds: u32) {
+    phase(rt, b"point_64", 64, rounds, points);
+    phase(rt, b"point_512", 512, rounds, points);
+    phase(rt, b"rect_64", 64, rounds, rects);
+    phase(rt, b"rect_512", 512, rounds, rects);
 }
 
-pub(crate) fn own_phase<R: CpuClock + Print + Eprint>(rt: &R, rounds: u32) {
-    phase(rt, "own_refusal_512", 512, rounds, refusals);
+pub(crate) fn own_phase<R: CpuClock>(rt: &R, rounds: u32) {
+    phase(rt, b"own_refusal_512", 512, rounds, refusals);
 }

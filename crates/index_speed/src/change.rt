@@ -38,40 +38,40 @@ fn again(waiting: &Index, rooms: &mut Rooms, start: u64) -> u64 {
     sum
 }
 
-fn update_phase<R: CpuClock + Print + Eprint>(rt: &R, rounds: u32) {
+fn update_phase<R: CpuClock>(rt: &R, rounds: u32) {
     let (mut index, start) = committed(512);
-    report::phase(rt, "update", 512, rounds, start, |sum, left| {
+    report::phase(rt, b"update", 512, rounds, start, |sum, left| {
         update(&mut index, work::shift(left), sum)
     });
 }
 
-fn single_phase<R: CpuClock + Print + Eprint>(rt: &R, rounds: u32) {
+fn single_phase<R: CpuClock>(rt: &R, rounds: u32) {
     let mut rooms = Rooms::new();
     let (mut index, start) = committed(512);
-    report::phase(rt, "update_commit_1", 512, rounds, start, |sum, left| {
+    report::phase(rt, b"update_commit_1", 512, rounds, start, |sum, left| {
         single(&mut index, work::shift(left), &mut rooms, sum)
     });
 }
 
-fn batch_phase<R: CpuClock + Print + Eprint>(rt: &R, rounds: u32) {
+fn batch_phase<R: CpuClock>(rt: &R, rounds: u32) {
     let mut rooms = Rooms::new();
     let (mut index, start) = committed(512);
-    report::phase(rt, "update_commit_512", 512, rounds, start, |sum, left| {
+    report::phase(rt, b"update_commit_512", 512, rounds, start, |sum, left| {
         let updated = update(&mut index, work::shift(left), sum);
         rooms.commit(&mut index, updated)
     });
 }
 
-pub(crate) fn own_phase<R: CpuClock + Print + Eprint>(rt: &R, rounds: u32) {
+pub(crate) fn own_phase<R: CpuClock>(rt: &R, rounds: u32) {
     let mut rooms = Rooms::new();
     let mut waiting = index_state::fresh();
     insert(&mut waiting, 512, 0);
-    report::phase(rt, "own_commit_512", 64, rounds, 0, |sum, _| {
+    report::phase(rt, b"own_commit_512", 64, rounds, 0, |sum, _| {
         again(&waiting, &mut rooms, sum)
     });
 }
 
-pub(crate) fn phases<R: CpuClock + Print + Eprint>(rt: &R, rounds: u32) {
+pub(crate) fn phases<R: CpuClock>(rt: &R, rounds: u32) {
     update_phase(rt, rounds);
     single_phase(rt, rounds);
     batch_phase(rt, rounds);

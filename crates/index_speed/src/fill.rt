@@ -63,12 +63,12 @@ pub(crate) fn committed(n: u32) -> (Index, u64) {
     (index, sum)
 }
 
-pub(crate) fn phases<R: CpuClock + Print + Eprint>(rt: &R, rounds: u32) {
-    report::phase(rt, "insert", 512, rounds, 0, |sum, _| {
+pub(crate) fn phases<R: CpuClock>(rt: &R, rounds: u32) {
+    report::phase(rt, b"insert", 512, rounds, 0, |sum, _| {
         insert(&mut index_state::fresh(), 512, sum)
     });
     let mut rooms = Rooms::new();
-    report::phase(rt, "insert_commit", 512, rounds, 0, |sum, _| {
+    report::phase(rt, b"insert_commit", 512, rounds, 0, |sum, _| {
         let mut index = index_state::fresh();
         let inserted = insert(&mut index, 512, sum);
         rooms.commit(&mut index, inserted)

@@ -12,7 +12,7 @@ use text_lines::report;
 
 fn main(rt: HostRuntime) {
     let rounds = report::rounds(&mut rt.stdin());
-    report::total(&rt, "rounds", 1, u64::from(rounds));
+    report::total(b"rounds", 1, u64::from(rounds));
     fill::phases(&rt, rounds);
     change::phases(&rt, rounds);
     ask::phases(&rt, rounds);

@@ -5,7 +5,8 @@
 ghost use Rattle.std.specs.Prelude.{◌≡◌};
 ghost use Rattle.index_state.specs.Index as spec;
 
-use index_types::{Aabb2D, FlatVec, Index, NodeId, Slot, Stored};
+use index_types::{Aabb2D, NodeId, Slot, Stored};
+pub use index_types::{FlatVec, Index, Refusal};
 
 // An empty index.
 pub fn fresh() -> Index

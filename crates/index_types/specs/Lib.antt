@@ -2,3 +2,4 @@ pub mod rooms
 pub mod Boxes
 pub mod Slots
 pub mod Refusals
+pub mod Equality

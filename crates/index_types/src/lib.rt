@@ -6,6 +6,9 @@ pub mod rooms; // boxes and ids in lent room
 
 ghost use Rattle.std.specs.Prelude.{◌≡◌};
 ghost use Rattle.index_types.specs.Boxes as spec;
+ghost use Rattle.index_types.specs.Equality.{aabb_chain};
+
+use numbers::as_numbers::EqualAsNumbers;
 
 // A node of the box tree: its index and generation. The index carries it as payload.
 #[derive(Clone, Copy, PartialEq, Eq)]
@@ -22,6 +25,12 @@ pub struct Aabb2D {
     pub min_y: f64,
     pub max_x: f64,
     pub max_y: f64,
+}
+
+impl EqualAsNumbers for Aabb2D {
+    ghost equality = { spec.aabb_eq };
+
+    ghost is_equality = { aabb_chain };
 }
 
 // A slot of the index and the entry that it holds. Mark and flag are numbers: a call takes any index, also one made by hand, and a narrower type would

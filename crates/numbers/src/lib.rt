@@ -1,6 +1,8 @@
 // f64: minimum, maximum, absolute value and finiteness, as kurbo takes them from the standard library of Rust.
 #![tactic(auto)]
 
+pub mod as_numbers; // what == answers on a type of numbers
+
 ghost use Rattle.std.specs.Prelude.{◌≡◌};
 ghost use Rattle.std.specs.Float.Ieee.Scale.{finite};
 ghost use Rattle.numbers.specs.Number as spec;

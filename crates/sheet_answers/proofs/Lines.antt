@@ -16,6 +16,7 @@ use Rattle.tree_state.specs.declared.Tree.{Tree}
 use Rattle.tree_state.specs.Tree.{number_in, number_of}
 use Rattle.tree_verdicts.specs.Held.{Asked}
 use Rattle.tree_verdicts.proofs.requests.Accepted.{accepted}
+use Rattle.sheet_format.specs.Lines.{items}
 use Rattle.sheet_format.specs.declared.TapLine.{TapLine}
 use Rattle.sheet_format.specs.Sheet.{Sheet, Read, refused, sheet, read_sheet, tap_of, tap_in_range, tap_rule}
 use Rattle.sheet_format.specs.Told.{tap_numbers}
@@ -73,11 +74,11 @@ taps_ready s g taps e i d h =
 
 -- ---- what the bytes yield
 
-sheet_said : (s : Sheet) → Good s → (t : SheetTree) → t.tree ≡ tree_of s → map tap_numbers t.taps.items ≡ s.taps
-    → All (Ready t.tree) t.taps.items × (taps_text t ≡ sheet_text s)
+sheet_said : (s : Sheet) → Good s → (t : SheetTree) → t.tree ≡ tree_of s → map tap_numbers (items t.taps) ≡ s.taps
+    → All (Ready t.tree) (items t.taps) × (taps_text t ≡ sheet_text s)
 unfolding sheet_text
 sheet_said s g t e f =
-    let taps = t.taps.items in
+    let taps = items t.taps in
     let P : Passes tap_rule [] (map tap_numbers taps) = subst (Passes tap_rule []) (sym f) g.taps in
     let n : length taps ≡ length s.taps = sym (length-map taps tap_numbers) ∙ ap (length {A = List ℤ}) f in (
       subst (λ (u : Tree). All (Ready u) taps) (sym e) (taps_ready s g taps f),
@@ -105,11 +106,11 @@ refused_as (trees.built t taps) = (0, 0)
 
 module _ (b : List ℕ) where
   -- the sheet's tree, with its taps
-  pub sheet_answered : (t : SheetTree) → trees.built t.tree (map tap_numbers t.taps.items) ≡ tree_on (read_sheet b) → All (Ready t.tree) t.taps.items × (taps_text t ≡ output b)
+  pub sheet_answered : (t : SheetTree) → trees.built t.tree (map tap_numbers (items t.taps)) ≡ tree_on (read_sheet b) → All (Ready t.tree) (items t.taps) × (taps_text t ≡ output b)
   unfolding output
   sheet_answered t e = go (read_sheet b) refl
     where
-      go : (r : Read) → read_sheet b ≡ r → All (Ready t.tree) t.taps.items × (taps_text t ≡ read_text (read_sheet b))
+      go : (r : Read) → read_sheet b ≡ r → All (Ready t.tree) (items t.taps) × (taps_text t ≡ read_text (read_sheet b))
       go (refused n l) f = let z : 0 ≡ 1 = ap is_refused (e ∙ ap tree_on f) in absurd (omega (arith, z))
       go (sheet s) f =
           let h = e ∙ ap tree_on f in

@@ -2,13 +2,14 @@
 use Rattle.std.specs.Prelude.{ℕ, Bool, true, false, not, List, [], ◌∷◌, ◌++◌, ltb, length, drop, Result, Ok, Err}
 use Rattle.tree_state.specs.declared.Refusal.{Refusal}
 use Rattle.tree_state.specs.declared.Refusal.TheVariants as no
+use Rattle.sheet_format.specs.Lines.{items}
 use Rattle.sheet_calls.specs.Answers.{line_of}
 use Rattle.sheet_tree.specs.declared.SheetTree.{SheetTree}
 use Rattle.sheet_answers.specs.tap_lines.Lines.{tap_text}
 
 -- the tap count, then the taps on the tree
 abbrev pub taps_text : SheetTree → List ℕ
-taps_text p = line_of (length p.taps.items ∷ []) ++ tap_text p.tree 1 p.taps.items
+taps_text p = line_of (length (items p.taps) ∷ []) ++ tap_text p.tree 1 (items p.taps)
 
 -- ---- the call
 

@@ -7,6 +7,7 @@ pub mod taps; // what a tap hits on the sheet's tree: the place and its depth
 pub mod text; // numbers as text, and lines of numbers
 
 ghost use Rattle.std.specs.Prelude.{◌≡◌, ◌≤◌, length, All};
+ghost use Rattle.sheet_format.specs.Lines.{items};
 ghost use Rattle.sheet_calls.specs.Answers as text;
 ghost use Rattle.sheet_answers.specs.text.Text.{Stored};
 ghost use Rattle.sheet_answers.specs.tap_lines.Lines.{Ready};
@@ -17,7 +18,7 @@ use tree_state::{Refusal, check};
 
 // The tap count, then the taps.
 fn put_sheet(sheet: &SheetTree, room: &mut [u8]) -> usize
-    requires ready { All (Ready sheet.now.tree) sheet.now.taps.items }
+    requires ready { All (Ready sheet.now.tree) (items sheet.now.taps) }
     requires long { 16384 ≤ length room.old }
     ensures { Stored room.old room.new 0 result (spec.taps_text sheet.now) }
 {

@@ -1,6 +1,7 @@
 -- What the code's types stand for, in the sheet's definitions.
 use Rattle.std.specs.Prelude.{ℕ, Result, Ok, Err, List, [], ◌∷◌, map, ℤ, pos}
-use Rattle.arrayvec.specs.ArrayVec.{ArrayVec}
+use Rattle.sheet_format.specs.declared.lines.Lines.{Lines}
+use Rattle.sheet_format.specs.Lines.{items}
 use Rattle.sheet_format.specs.Sheet.{Section, stopped, ended, Sheet, Read, refused, sheet}
 use Rattle.sheet_format.specs.declared.PlaceLine.{PlaceLine}
 use Rattle.sheet_format.specs.declared.ClipLine.{ClipLine}
@@ -32,8 +33,8 @@ tap_numbers t = t.x ∷ t.y ∷ t.flags ∷ []
 -- ---- what was read
 
 -- lines that were read, with the bytes behind them; or the refusal, with its line
-abbrev pub told_lines : {L : Type 0} → (L → List ℤ) → List ℕ → Result (ArrayVec L) Refused → Section
-told_lines numbers rest (Ok lines) = ended (map numbers lines.items) rest
+abbrev pub told_lines : {L : Type 0} {MOST : ℕ} → (L → List ℤ) → List ℕ → Result (Lines L MOST) Refused → Section
+told_lines numbers rest (Ok lines) = ended (map numbers (items lines)) rest
 told_lines numbers rest (Err r) = stopped (number_of r.why) r.line
 
 -- a count that was read, with the bytes behind it
@@ -44,9 +45,9 @@ told_count rest (Err r) = stopped (number_of r.why) r.line
 abbrev pub sheet_of : Parsed → Sheet
 sheet_of p =
     record {
-      places = map place_numbers p.places.items;
-      clips = map clip_numbers p.clips.items;
-      taps = map tap_numbers p.taps.items;
+      places = map place_numbers (items p.places);
+      clips = map clip_numbers (items p.clips);
+      taps = map tap_numbers (items p.taps);
     }
 
 -- a sheet that was read

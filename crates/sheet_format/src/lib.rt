@@ -1,7 +1,9 @@
 // The plan sheet: its lines, and what reading one gives.
 #![tactic(auto)]
 
-use arrayvec::ArrayVec;
+pub mod lines; // the lines of one kind
+
+use lines::Lines;
 use sheet_lines::LINE_WIDTH;
 
 // The numbers on a place's line: none is wider.
@@ -72,9 +74,9 @@ pub struct Refused {
 }
 
 // The lines of a sheet.
-#[derive(Drop)]
+#[derive(Clone, Copy, Drop)]
 pub struct Parsed {
-    pub places: ArrayVec<PlaceLine, MOST_PLACES>,
-    pub clips: ArrayVec<ClipLine, MOST_PLACES>,
-    pub taps: ArrayVec<TapLine, MOST_TAPS>,
+    pub places: Lines<PlaceLine, MOST_PLACES>,
+    pub clips: Lines<ClipLine, MOST_PLACES>,
+    pub taps: Lines<TapLine, MOST_TAPS>,
 }

@@ -6,7 +6,7 @@ ghost use Rattle.sheet_reader.specs.Ahead.{ahead};
 
 use crate::Reader;
 use crate::lines::{self, SheetLine};
-use arrayvec::ArrayVec;
+use sheet_format::lines::Lines;
 use sheet_format::{Refusal, Refused};
 
 impl<'a> Reader<'a> {
@@ -38,14 +38,14 @@ impl<'a> Reader<'a> {
         count: usize,
         places: usize,
         first: usize,
-    ) -> Result<ArrayVec<L, MOST>, Refused>
+    ) -> Result<Lines<L, MOST>, Refused>
         requires room { count ≤ MOST }
         requires few { count ≤ spec.most_lines }
         requires places { places ≤ spec.most_lines }
         requires early { first ≤ 3000 }
         ensures { told_lines L.numbers (ahead self.new) result ≡ spec.section (L.rule places) count [] first (ahead self.old) }
     {
-        let mut lines: ArrayVec<L, MOST> = ArrayVec::new();
+        let mut lines: Lines<L, MOST> = Lines::new();
         for line in first..first + count {
             let Some(row) = self.line(L::WIDTH) else {
                 return Err(Refused {
@@ -77,7 +77,7 @@ impl<'a> Reader<'a> {
         most: usize,
         places: usize,
         line: usize,
-    ) -> Result<ArrayVec<L, MOST>, Refused>
+    ) -> Result<Lines<L, MOST>, Refused>
         requires room { most ≤ MOST }
         requires few { most ≤ spec.most_lines }
         requires places { places ≤ spec.most_lines }

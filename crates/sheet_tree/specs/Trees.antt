@@ -1,5 +1,6 @@
 -- What a sheet's bytes yield: the tree after the sheet's calls with the sheet's taps, or the refusal with its line.
 use Rattle.std.specs.Prelude.{ℕ, List, ℤ, map, Result, Ok, Err}
+use Rattle.sheet_format.specs.Lines.{items}
 use Rattle.sheet_format.specs.Sheet as format
 use Rattle.sheet_format.specs.Sheet.{Read}
 use Rattle.sheet_format.specs.Told.{tap_numbers, number_of}
@@ -19,5 +20,5 @@ tree_on (format.sheet whole) = built (tree_of whole) whole.taps
 
 -- of what the code has
 abbrev pub told_tree : Result SheetTree Refused → Yield
-told_tree (Ok t) = built t.tree (map tap_numbers t.taps.items)
+told_tree (Ok t) = built t.tree (map tap_numbers (items t.taps))
 told_tree (Err r) = refused (number_of r.why) r.line

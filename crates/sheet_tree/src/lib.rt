@@ -11,16 +11,16 @@ ghost use Rattle.sheet_calls.specs.Good.{Good};
 ghost use Rattle.sheet_laws.specs.Built.{tree_of};
 ghost use Rattle.sheet_tree.specs.Trees as spec;
 
-use arrayvec::ArrayVec;
+use sheet_format::lines::Lines;
 use sheet_format::{MOST_TAPS, Parsed, Refused, TapLine};
 use tree_commit::work;
 use tree_state::Tree;
 
 // The committed tree of a sheet, and the sheet's taps.
-#[derive(Drop)]
+#[derive(Clone, Copy, Drop)]
 pub struct SheetTree {
     pub tree: Tree,
-    pub taps: ArrayVec<TapLine, MOST_TAPS>,
+    pub taps: Lines<TapLine, MOST_TAPS>,
 }
 
 // The tree of a good sheet.

@@ -1,2 +1,4 @@
+pub mod Back
 pub mod Nan
+pub mod Parted
 pub mod Spelt

@@ -1,49 +1,51 @@
 // A reader by lines, and what is answered to them.
-use crate::print::Out;
-use std::alloc::Global;
-use std::io;
-use std::io::{BufRead, BufReader, BufWriter, Read, Write};
-use std::rt::Stdout;
+ghost use Rattle.std.specs.Prelude.{◌≤◌, length};
 
-// How much is read or written at once.
-const BLOCK: usize = 65_536;
+use crate::print::{BLOCK, Out, hold};
+use arrayvec::ArrayVec;
+use std::io::{Read, Write};
+use std::rt::Stdout;
 
 // Of a line that is longer only so many bytes are held: no call and no vector is so long.
 const LONGEST: usize = 512;
 
+// The line that has begun, as far as it is held.
+type Begun = ArrayVec<u8, LONGEST>;
+
 // Inner: hands each line of a reader, without its line end, to `answer`, with what gathers for standard output; also a line that ends with the input, or
-// with a read that fails. What has gathered is written before a read that may wait; a write that fails is passed over. `false` where a read has
-// failed, and `Err` where there is no memory to begin with.
-pub fn answer_lines<R, F>(
-    alloc: Global,
-    reader: R,
-    stdout: Stdout,
-    mut answer: F,
-) -> io::Result<bool>
+// with a read that fails. What has gathered is written before each read, which may wait. `false` where a read has failed. There is no heap: of what
+// is read a block is held, and of a line its first bytes.
+pub fn answer_lines<R, F>(mut reader: R, stdout: Stdout, mut answer: F) -> bool
 where
     R: Read + Drop,
     F: FnMut(&mut Out, &[u8]),
-    requires { (f : F) (out : _) (line : _) → F.pre f out line }
+    requires { (f : F) (out : _) (line : _) → length line.now ≤ 512 → F.pre f out line }
 {
-    let mut reader = BufReader::with_capacity(alloc, BLOCK, reader)?;
-    let mut out = BufWriter::with_capacity(alloc, BLOCK, stdout)?;
-    let mut line = Vec::new(alloc);
+    let mut out = Out::new(stdout);
+    let mut begun = Begun::new();
+    let mut block = [0; BLOCK];
     for _ in 0..u64::MAX {
-        line.clear();
-        let read = reader.read_until(b'\n', &mut line);
-        match line.as_slice() {
-            [] => {}
-            [whole @ .., b'\n'] => answer(&mut out, &whole[..whole.len().min(LONGEST)]),
-            cut_off => answer(&mut out, &cut_off[..cut_off.len().min(LONGEST)]),
-        }
-        if !reader.buffer().contains(&b'\n') {
+        let read = reader.read(&mut block);
+        let Ok(n @ 1..) = read else {
+            if !begun.is_empty() {
+                answer(&mut out, &begun);
+            }
             let _ = out.flush();
+            return read.is_ok();
+        };
+        for part in block[..n].split_inclusive(|b| *b == b'\n') {
+            match part {
+                [whole @ .., b'\n'] => {
+                    hold(&mut begun, whole);
+                    answer(&mut out, &begun);
+                    begun.clear();
+                }
+                cut_off => {
+                    hold(&mut begun, cut_off);
+                }
+            }
         }
-        match read {
-            Ok(0) => break,
-            Ok(_) => {}
-            Err(_) => return Ok(false),
-        }
+        let _ = out.flush();
     }
-    Ok(true)
+    true
 }

@@ -1,12 +1,56 @@
 // Numbers as answers show them.
-ghost use Rattle.std.specs.Prelude.{◌≡◌, ◌*◌, length, min, take};
+ghost use Rattle.std.specs.Prelude.{◌≡◌, ◌*◌, ◌-◌, ◌++◌, length, min, take};
+ghost use Rattle.arrayvec.specs.ArrayVec.{array_vec_len};
 
-use std::io::{BufWriter, Write};
+use arrayvec::ArrayVec;
+use std::io::Write;
 use std::rt::Stdout;
 use std::{fmt, io};
 
-// Where answers gather before they are written.
-pub type Out = BufWriter<Stdout>;
+// How much is read or written at once.
+pub const BLOCK: usize = 32_768;
+
+// Where answers gather before they are written, without a heap. A write that fails is passed over, and what had gathered is left out.
+#[derive(Drop)]
+pub struct Out {
+    gathered: ArrayVec<u8, BLOCK>,
+    stdout: Stdout,
+}
+
+// Holds what fits of a part behind what is held, and answers how many bytes that is.
+pub(crate) fn hold<const N: usize>(held: &mut ArrayVec<u8, N>, part: &[u8]) -> usize
+    ensures count { result ≡ min (length part.now) (N - array_vec_len held.old) }
+    ensures held { held.new.items ≡ held.old.items ++ take result part.now }
+{
+    let n = part.len().min(held.remaining_capacity());
+    let _ = held.try_extend_from_slice(&part[..n]);
+    n
+}
+
+impl Out {
+    // Nothing has gathered.
+    pub(crate) fn new(stdout: Stdout) -> Out {
+        Out {
+            gathered: ArrayVec::new(),
+            stdout,
+        }
+    }
+}
+
+impl Write for Out {
+    fn write(&mut self, part: &[u8]) -> io::Result<usize> {
+        if self.gathered.is_full() {
+            self.flush()?;
+        }
+        Ok(hold(&mut self.gathered, part))
+    }
+
+    fn flush(&mut self) -> io::Result<()> {
+        let _ = self.stdout.write_all(&self.gathered);
+        self.gathered.clear();
+        Ok(())
+    }
+}
 
 // `nan`, `0` for either zero, or the 16 hexadecimal digits of the bits.
 #[derive(Clone, Copy)]

@@ -38,34 +38,49 @@ pub fn clock(rt: &impl CpuClock) -> u64 {
     }
 }
 
+// Behind a space.
+fn field(fd: i32, n: u64) {
+    io::write_all(fd, b" ");
+    io::print_decimal(fd, n);
+}
+
 // Inner: `name units sum`, to standard output. A write that fails is passed over, here and below.
-pub fn total(rt: &impl Print, name: &str, units: u64, sum: u64) {
-    let _ = println!(rt; "{name} {units} {sum}");
+pub fn total(name: &[u8], units: u64, sum: u64) {
+    io::write_all(1, name);
+    field(1, units);
+    field(1, sum);
+    io::write_all(1, b"\n");
 }
 
 // Inner: a phase of so many rounds, each handed the sum so far, from `start` on, and the number of rounds that are left: `name units sum`, and to
 // standard error `name time`.
-pub fn phase<R, F>(rt: &R, name: &str, units: u64, rounds: u32, start: u64, round: F)
+pub fn phase<R, F>(rt: &R, name: &[u8], units: u64, rounds: u32, start: u64, round: F)
 where
-    R: CpuClock + Print + Eprint,
+    R: CpuClock,
     F: FnMut(u64, u32) -> u64,
     requires { F.IsAlwaysCallable round }
 {
     let (sum, time) = timed(rt, rounds, start, round);
-    total(rt, name, units, sum);
-    let _ = eprintln!(rt; "{name} {time}");
+    total(name, units, sum);
+    io::write_all(2, name);
+    field(2, time);
+    io::write_all(2, b"\n");
 }
 
 // Inner: a phase of so many calls, on so many nodes: `name units sum`, and to standard error `name units calls time`.
-pub fn phase_of_calls<R, F>(rt: &R, name: &str, units: u32, calls: u32, call: F)
+pub fn phase_of_calls<R, F>(rt: &R, name: &[u8], units: u32, calls: u32, call: F)
 where
-    R: CpuClock + Print + Eprint,
+    R: CpuClock,
     F: FnMut(u64, u32) -> u64,
     requires { F.IsAlwaysCallable call }
 {
     let (sum, time) = timed(rt, calls, 0, call);
-    total(rt, name, u64::from(units), sum);
-    let _ = eprintln!(rt; "{name} {units} {calls} {time}");
+    total(name, u64::from(units), sum);
+    io::write_all(2, name);
+    field(2, u64::from(units));
+    field(2, u64::from(calls));
+    field(2, time);
+    io::write_all(2, b"\n");
 }
 
 // The sum of all rounds, and their time in microseconds.

@@ -13,10 +13,12 @@ pub fn within(n: usize, s: &[u8]) -> usize
     n.min(s.len())
 }
 
-// Which of `names`, parted by spaces, is `name`: 0 is the first.
+// Which of `names` is `name`: 0 is the first. Each ends at a space or where the text ends.
 pub fn place(names: &[u8], name: &[u8]) -> Option<usize>
     ensures { result ≡ spec.place name.now names.now }
 {
+    let (last, front) = names.split_last()?;
+    let names = if *last == b' ' { front } else { names };
     names.split(|b| *b == b' ').position(|part| name == part)
 }
 

@@ -43,24 +43,24 @@ fn listed(answer: Result<usize, Refusal>, sum: u64) -> u64 {
 }
 
 // `last` is the last of n nodes, which are a power of two.
-pub(crate) fn phases<R: CpuClock + Print + Eprint>(rt: &R, n: u32, last: u32, calls: u32) {
+pub(crate) fn phases<R: CpuClock>(rt: &R, n: u32, last: u32, calls: u32) {
     let tree = change::committed(n);
     let mut room = [0; 512];
     phase_of_calls(
         rt,
-        "is_alive",
+        b"is_alive",
         n,
         calls,
         |sum, k| alive(&tree, k & last, sum),
     );
-    phase_of_calls(rt, "tap", n, calls, |sum, k| tap(&tree, k, &mut room, sum));
-    phase_of_calls(rt, "point", n, calls, |sum, k| {
+    phase_of_calls(rt, b"tap", n, calls, |sum, k| tap(&tree, k, &mut room, sum));
+    phase_of_calls(rt, b"point", n, calls, |sum, k| {
         listed(
             tree_listings::containing_point(&tree, work::point(k), filter(), &mut room),
             sum,
         )
     });
-    phase_of_calls(rt, "rect", n, calls, |sum, k| {
+    phase_of_calls(rt, b"rect", n, calls, |sum, k| {
         listed(
             tree_listings::intersect_rect(&tree, work::rect(k), filter(), &mut room),
             sum,

@@ -40,8 +40,8 @@ pub(crate) fn committed(n: u32) -> Tree {
 }
 
 // All n of them are one call here.
-pub(crate) fn inserts<R: CpuClock + Print + Eprint>(rt: &R, n: u32, rounds: u32) {
-    phase_of_calls(rt, "inserts", n, rounds, |sum, _| {
+pub(crate) fn inserts<R: CpuClock>(rt: &R, n: u32, rounds: u32) {
+    phase_of_calls(rt, b"inserts", n, rounds, |sum, _| {
         fill(&mut tree_state::fresh(), n, sum)
     });
 }
@@ -63,11 +63,11 @@ fn swap(tree: &mut Tree, last: u32, generation: u32, room: &mut [f64], sum: u64)
     damage(sum, tree_commit::commit(tree, room))
 }
 
-fn setters<R: CpuClock + Print + Eprint>(rt: &R, start: &Tree, n: u32, last: u32, calls: u32) {
+fn setters<R: CpuClock>(rt: &R, start: &Tree, n: u32, last: u32, calls: u32) {
     let mut tree = *start;
     phase_of_calls(
         rt,
-        "setter",
+        b"setter",
         n,
         calls,
         |sum, k| done(sum, set_leaf(&mut tree, last, k)),
@@ -75,20 +75,20 @@ fn setters<R: CpuClock + Print + Eprint>(rt: &R, start: &Tree, n: u32, last: u32
 }
 
 // The same, each with its commit.
-fn leaves<R: CpuClock + Print + Eprint>(rt: &R, start: &Tree, n: u32, last: u32, calls: u32) {
+fn leaves<R: CpuClock>(rt: &R, start: &Tree, n: u32, last: u32, calls: u32) {
     let mut tree = *start;
     let mut room = [0.0; 2048];
-    phase_of_calls(rt, "setter_commit", n, calls, |sum, k| {
+    phase_of_calls(rt, b"setter_commit", n, calls, |sum, k| {
         let _ = set_leaf(&mut tree, last, k);
         damage(sum, tree_commit::commit(&mut tree, &mut room))
     });
 }
 
-fn moves<R: CpuClock + Print + Eprint>(rt: &R, start: &Tree, n: u32, calls: u32) {
+fn moves<R: CpuClock>(rt: &R, start: &Tree, n: u32, calls: u32) {
     let mut tree = *start;
     phase_of_calls(
         rt,
-        "root",
+        b"root",
         n,
         calls,
         |sum, k| done(sum, move_root(&mut tree, k)),
@@ -96,27 +96,27 @@ fn moves<R: CpuClock + Print + Eprint>(rt: &R, start: &Tree, n: u32, calls: u32)
 }
 
 // The same, each with its commit, which reworks every node.
-fn wholes<R: CpuClock + Print + Eprint>(rt: &R, start: &Tree, n: u32, calls: u32) {
+fn wholes<R: CpuClock>(rt: &R, start: &Tree, n: u32, calls: u32) {
     let mut tree = *start;
     let mut room = [0.0; 2048];
-    phase_of_calls(rt, "root_commit", n, calls, |sum, k| {
+    phase_of_calls(rt, b"root_commit", n, calls, |sum, k| {
         let _ = move_root(&mut tree, k);
         damage(sum, tree_commit::commit(&mut tree, &mut room))
     });
 }
 
-fn swaps<R: CpuClock + Print + Eprint>(rt: &R, start: &Tree, n: u32, last: u32, calls: u32) {
+fn swaps<R: CpuClock>(rt: &R, start: &Tree, n: u32, last: u32, calls: u32) {
     let mut tree = *start;
     let mut room = [0.0; 2048];
     let mut generation = 0u32;
-    phase_of_calls(rt, "remove_insert_commit", n, calls, |sum, _| {
+    phase_of_calls(rt, b"remove_insert_commit", n, calls, |sum, _| {
         generation = generation.wrapping_add(1);
         swap(&mut tree, last, generation, &mut room, sum)
     });
 }
 
 // `last` is the last of n nodes.
-pub(crate) fn phases<R: CpuClock + Print + Eprint>(rt: &R, n: u32, last: u32, calls: u32) {
+pub(crate) fn phases<R: CpuClock>(rt: &R, n: u32, last: u32, calls: u32) {
     let start = committed(n);
     setters(rt, &start, n, last, calls);
     leaves(rt, &start, n, last, calls);

@@ -13,7 +13,7 @@ use std::time::CpuClock;
 use text_lines::report;
 
 // `last` is the last of n nodes.
-fn all<R: CpuClock + Print + Eprint>(rt: &R, n: u32, last: u32, rounds: u32)
+fn all<R: CpuClock>(rt: &R, n: u32, last: u32, rounds: u32)
     requires { rounds ≤ 9999 }
 {
     change::inserts(rt, n, rounds);

@@ -17,6 +17,7 @@ use Rattle.geometry_clips.specs.declared.clip.Clip.{Clip}
 use Rattle.tree_state.specs.declared.Tree.{Tree}
 use Rattle.tree_steps.specs.Structure.{insert_tree}
 use Rattle.tree_insert.specs.Insert.{Room}
+use Rattle.sheet_format.specs.Lines.{items}
 use Rattle.sheet_format.specs.declared.PlaceLine.{PlaceLine}
 use Rattle.sheet_format.specs.declared.ClipLine.{ClipLine}
 use Rattle.sheet_format.specs.declared.Parsed.{Parsed}
@@ -39,32 +40,32 @@ parent_told before p h = upward p.parent (length before) h
 
 module _ (s : Parsed) (g : Good (sheet_of s)) where
   rows : List (List ℤ)
-  rows = map place_numbers s.places.items
+  rows = map place_numbers (items s.places)
 
   abbrev pub clip_rows : List (List ℤ)
-  clip_rows = map clip_numbers s.clips.items
+  clip_rows = map clip_numbers (items s.clips)
 
-  many : length rows ≡ length s.places.items
+  many : length rows ≡ length (items s.places)
   unfolding rows
-  many = length-map s.places.items place_numbers
+  many = length-map (items s.places) place_numbers
 
-  pub few_places : length s.places.items ≤ 256
+  pub few_places : length (items s.places) ≤ 256
   unfolding rows
   few_places = omega (arith, g.few_places, many)
 
-  pub clips_ranged : All (λ (c : ClipLine). clip_in_range c ≡ true) s.clips.items
+  pub clips_ranged : All (λ (c : ClipLine). clip_in_range c ≡ true) (items s.clips)
   unfolding rows clip_of
   clips_ranged i d h =
-      let f = passes_at (clip_rule (length rows)) [] clip_rows g.clips i (omega (arith, h, length-map s.clips.items clip_numbers)) in
-      subst (λ (r : List ℤ). clip_in_range (clip_of r) ≡ true) (get_or-map clip_numbers s.clips.items i d [] h) f.ranged
+      let f = passes_at (clip_rule (length rows)) [] clip_rows g.clips i (omega (arith, h, length-map (items s.clips) clip_numbers)) in
+      subst (λ (r : List ℤ). clip_in_range (clip_of r) ≡ true) (get_or-map clip_numbers (items s.clips) i d [] h) f.ranged
 
-  module _ (i : ℕ) (h : i < length s.places.items) (d : PlaceLine) where
+  module _ (i : ℕ) (h : i < length (items s.places)) (d : PlaceLine) where
     abbrev p : PlaceLine
-    p = get_or s.places.items i d
+    p = get_or (items s.places) i d
 
     here : get_or rows i [] ≡ place_numbers p
     unfolding rows
-    here = get_or-map place_numbers s.places.items i d [] h
+    here = get_or-map place_numbers (items s.places) i d [] h
 
     low : i < length rows
     low = omega (arith, h, many)

@@ -1,11 +1,16 @@
 -- Words of a line: names parted by spaces, and the 64 bits that 16 hexadecimal digits spell. A byte is its ASCII code.
 use Rattle.std.specs.Prelude.{ℕ, ◌+◌, ◌-◌, ◌*◌, cond, ◌&&◌, List, [], ◌∷◌, length, ◌==◌, nat_le, nat_lt, Option, Some, None}
-use Rattle.std.specs.List.{position, slice_split}
+use Rattle.std.specs.List.{position, onto_first}
 use Rattle.std.specs.Str.{bytes_eq}
 
--- the place of a name among those of a text, counted from 0: the first where it stands. Each ends at a space, 32, or where the text ends
+-- the names of a text: each ends at a space, 32, or where the text ends
+unfoldable pub parted : List ℕ → List (List ℕ)
+parted [] = []
+parted (b ∷ s) = cond (b == 32) ([] ∷ parted s) (onto_first b (parted s))
+
+-- the place of a name among those of a text, counted from 0: the first where it stands
 abbrev pub place : List ℕ → List ℕ → Option ℕ
-place w names = position (bytes_eq w) (slice_split (λ b. b == 32) names)
+place w names = position (bytes_eq w) (parted names)
 
 -- a hexadecimal digit's value: `0` to `9` are 48 to 57, `a` to `f` are 97 to 102; 16 for every other byte
 abbrev pub digit_value : ℕ → ℕ

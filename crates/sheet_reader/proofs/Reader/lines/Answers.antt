@@ -1,5 +1,6 @@
 use Rattle.std.proofs.Common.{◌≡◌, map, take, sym, ◌∙◌, arith}
 use Rattle.sheet_lines.specs.Saturated.{unfit, row, first_fields}
+use Rattle.sheet_format.specs.Lines.{items}
 use Rattle.sheet_reader.specs.Ahead.{ahead}
 use Rattle.sheet_reader.proofs.Turns.{lines_read, line_21, line_22, line_23, line_read}
 use Rattle.sheet_reader.proofs.Reader.lines.Goals as goal
@@ -18,7 +19,7 @@ returns-in_default g c =
     let l = c.loop-line in
     let e : unfit ≡ first_fields L.WIDTH (ahead l.self) = rw c.WIDTH.ensures at c.in_default.ensures.numbers in
     line_21 L.numbers (L.rule A.places) L.WIDTH (M.wide A.places) M.narrow (λ before. M.blind A.places before c.requires.places) A.first A.count l.line
-    l.lines.items (ahead A.self.now) (ahead l.self) c.requires.few l.invariant c.loop-line-test.true e
+    (items l.lines) (ahead A.self.now) (ahead l.self) c.requires.few l.invariant c.loop-line-test.true e
 
 pub returns-then-not-is_in_range : goal.returns-then-not-is_in_range
 returns-then-not-is_in_range g c =
@@ -28,7 +29,7 @@ returns-then-not-is_in_range g c =
     let l = c.loop-line in
     let e = read g (goal.at.returns-then-not-is_in_range g c).In-Some in
     line_22 L.numbers (L.rule A.places) L.WIDTH (M.wide A.places) M.narrow (λ before. M.blind A.places before c.requires.places) A.first A.count l.line
-    l.lines.items (ahead A.self.now) (ahead l.self) c.requires.few l.invariant c.loop-line-test.true c.of_row-found.result c.in-Some.row
+    (items l.lines) (ahead A.self.now) (ahead l.self) c.requires.few l.invariant c.loop-line-test.true c.of_row-found.result c.in-Some.row
     (ahead c.line.new.self) c.of_row-found.ensures e (sym (c.is_in_range.ensures A.places) ∙ c.if-not-is_in_range.true)
 
 pub returns-then-not-fits : goal.returns-then-not-fits
@@ -38,10 +39,10 @@ returns-then-not-fits g c =
     let A = c.args in
     let l = c.loop-line in
     let e = read g (goal.at.returns-then-not-fits g c).In-Some in
-    let f : c.fits.result ≡ (L.rule A.places).fitting (map L.numbers l.lines.items) (L.numbers c.of_row-found.result) =
+    let f : c.fits.result ≡ (L.rule A.places).fitting (map L.numbers (items l.lines)) (L.numbers c.of_row-found.result) =
     rw c.as_slice.ensures.value at c.fits.ensures in
     line_23 L.numbers (L.rule A.places) L.WIDTH (M.wide A.places) M.narrow (λ before. M.blind A.places before c.requires.places) A.first A.count l.line
-    l.lines.items (ahead A.self.now) (ahead l.self) c.requires.few l.invariant c.loop-line-test.true c.of_row-found.result c.in-Some.row
+    (items l.lines) (ahead A.self.now) (ahead l.self) c.requires.few l.invariant c.loop-line-test.true c.of_row-found.result c.in-Some.row
     (ahead c.line.new.self) c.of_row-found.ensures e (sym (c.is_in_range.ensures A.places) ∙ c.if-not-is_in_range.false) (sym f ∙ c.if-not-fits.true)
 
 pub loop-line-preserved : goal.loop-line-preserved
@@ -51,11 +52,11 @@ loop-line-preserved g c =
     let A = c.args in
     let l = c.loop-line in
     let e = read g (goal.at.loop-line-preserved g c).In-Some in
-    let f : c.fits.result ≡ (L.rule A.places).fitting (map L.numbers l.lines.items) (L.numbers c.of_row-found.result) =
+    let f : c.fits.result ≡ (L.rule A.places).fitting (map L.numbers (items l.lines)) (L.numbers c.of_row-found.result) =
     rw c.as_slice.ensures.value at c.fits.ensures in
     line_read L.numbers (L.rule A.places) L.WIDTH (M.wide A.places) M.narrow (λ before. M.blind A.places before c.requires.places) A.first A.count l.line
-    l.lines.items (ahead A.self.now) (ahead l.self) c.requires.few l.invariant c.loop-line-test.true c.of_row-found.result c.in-Some.row
-    (ahead c.line.new.self) c.of_row-found.ensures e c.push.new.self.items c.push.ensures.items (sym (c.is_in_range.ensures A.places) ∙ c.if-not-is_in_range.false)
+    (items l.lines) (ahead A.self.now) (ahead l.self) c.requires.few l.invariant c.loop-line-test.true c.of_row-found.result c.in-Some.row
+    (ahead c.line.new.self) c.of_row-found.ensures e (items c.push.new.self) c.push.ensures (sym (c.is_in_range.ensures A.places) ∙ c.if-not-is_in_range.false)
     (sym f ∙ c.if-not-fits.false)
 
 pub returns : goal.returns
@@ -63,4 +64,4 @@ returns g c =
     let L = g.L.SheetLine in
     let A = c.args in
     let l = c.loop-line in
-    lines_read L.numbers (L.rule A.places) A.first A.count l.line l.lines.items (ahead A.self.now) (ahead l.self) l.invariant (omega arith)
+    lines_read L.numbers (L.rule A.places) A.first A.count l.line (items l.lines) (ahead A.self.now) (ahead l.self) l.invariant (omega arith)
