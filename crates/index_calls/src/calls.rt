@@ -8,6 +8,7 @@ use std::io::Write;
 use text_lines::calls;
 use text_lines::calls::{end, end_line};
 use text_lines::print::{Out, Pair};
+use text_lines::spelling::named;
 use text_lines::words::Words;
 use understory_index::{commits, inserts, queries, updates};
 
@@ -42,18 +43,49 @@ fn answer_call(out: &mut Out, line: &[u8], state: &mut State) {
     let _ = end_line(out, answered, show::number);
 }
 
+// A further call is a name and a variant in the same place here, and an arm below.
+#[derive(Clone, Copy)]
+enum Verb {
+    New,
+    Clear,
+    Room,
+    Insert,
+    Update,
+    Remove,
+    Commit,
+    QueryPoint,
+    QueryRect,
+}
+
+fn verb_of(name: &[u8]) -> Option<Verb> {
+    named(
+        b"new clear room insert update remove commit query_point query_rect",
+        &[
+            Verb::New,
+            Verb::Clear,
+            Verb::Room,
+            Verb::Insert,
+            Verb::Update,
+            Verb::Remove,
+            Verb::Commit,
+            Verb::QueryPoint,
+            Verb::QueryRect,
+        ],
+        name,
+    )
+}
+
 fn call(out: &mut Out, name: &[u8], words: &mut Words, state: &mut State) -> Result<(), Fault> {
-    match name {
-        b"new" => new(out, words, &mut state.index),
-        b"clear" => clear(out, words, &mut state.index),
-        b"room" => room(out, words, &mut state.room),
-        b"insert" => insert(out, words, &mut state.index),
-        b"update" => update(out, words, &mut state.index),
-        b"remove" => remove(out, words, &mut state.index),
-        b"commit" => commit(out, words, &mut state.index, state.room),
-        b"query_point" => query_point(out, words, &state.index, state.room),
-        b"query_rect" => query_rect(out, words, &state.index, state.room),
-        _ => Err(Fault::Malformed),
+    match verb_of(name).ok_or(Fault::Malformed)? {
+        Verb::New => new(out, words, &mut state.index),
+        Verb::Clear => clear(out, words, &mut state.index),
+        Verb::Room => room(out, words, &mut state.room),
+        Verb::Insert => insert(out, words, &mut state.index),
+        Verb::Update => update(out, words, &mut state.index),
+        Verb::Remove => remove(out, words, &mut state.index),
+        Verb::Commit => commit(out, words, &mut state.index, state.room),
+        Verb::QueryPoint => query_point(out, words, &state.index, state.room),
+        Verb::QueryRect => query_rect(out, words, &state.index, state.room),
     }
 }
 

@@ -4,6 +4,7 @@
 pub mod state; // how a list begins, and which lines have no call
 mod read; // what the words of a line stand for
 mod show; // the values of an answer
+mod verbs; // the calls by name
 mod requests; // calls that are lent room
 
 ghost use Rattle.std.specs.Prelude.{◌≡◌, true};
@@ -13,6 +14,7 @@ use crate::read::{Fault, FromWords};
 use crate::show::Show;
 use crate::state::is_note;
 pub use crate::state::{State, start};
+use crate::verbs::{Change, Reading, Request};
 use index_types::NodeId;
 use text_lines::calls::{end, end_line};
 use text_lines::print::Out;
@@ -54,27 +56,28 @@ fn number(refusal: Refusal) -> u32 {
     }
 }
 
-// A further call is one arm here, or in one of the two functions below.
 fn call(out: &mut Out, name: &[u8], words: &mut Words, state: &mut State) -> Result<(), Fault> {
-    match name {
-        b"new" => new(out, words, &mut state.tree),
-        b"room" => room(out, words, state),
-        b"insert" => insert(out, words, &mut state.tree),
-        b"remove" => remove(out, words, &mut state.tree),
-        b"reparent" => set(out, words, &mut state.tree, tree_reparent::reparent),
-        b"commit" => requests::commit(out, words, &mut state.tree, state.rects),
-        b"set_local_bounds" => set(out, words, &mut state.tree, tree_setters::set_local_bounds),
-        b"set_hit_slop" => set(out, words, &mut state.tree, tree_setters::set_hit_slop),
-        b"set_local_transform" => set(
+    let Some(verb) = verbs::change_of(name) else {
+        return request(out, name, words, &state.tree, state.ids);
+    };
+    match verb {
+        Change::New => new(out, words, &mut state.tree),
+        Change::Room => room(out, words, state),
+        Change::Insert => insert(out, words, &mut state.tree),
+        Change::Remove => remove(out, words, &mut state.tree),
+        Change::Reparent => set(out, words, &mut state.tree, tree_reparent::reparent),
+        Change::Commit => requests::commit(out, words, &mut state.tree, state.rects),
+        Change::SetLocalBounds => set(out, words, &mut state.tree, tree_setters::set_local_bounds),
+        Change::SetHitSlop => set(out, words, &mut state.tree, tree_setters::set_hit_slop),
+        Change::SetLocalTransform => set(
             out,
             words,
             &mut state.tree,
             tree_setters::set_local_transform,
         ),
-        b"set_local_clip" => set(out, words, &mut state.tree, tree_setters::set_local_clip),
-        b"set_z_index" => set(out, words, &mut state.tree, tree_setters::set_z_index),
-        b"set_flags" => set(out, words, &mut state.tree, tree_setters::set_flags),
-        _ => request(out, name, words, &state.tree, state.ids),
+        Change::SetLocalClip => set(out, words, &mut state.tree, tree_setters::set_local_clip),
+        Change::SetZIndex => set(out, words, &mut state.tree, tree_setters::set_z_index),
+        Change::SetFlags => set(out, words, &mut state.tree, tree_setters::set_flags),
     }
 }
 
@@ -86,33 +89,34 @@ fn request(
     tree: &Tree,
     ids: u32,
 ) -> Result<(), Fault> {
-    match name {
-        b"needs_commit" => needs_commit(out, words, tree),
-        b"hit_test_point" => requests::hit_test_point(out, words, tree, ids),
-        b"containing_point" => requests::listing(out, words, tree, ids, containing_point),
-        b"intersect_rect" => requests::listing(out, words, tree, ids, intersect_rect),
-        b"children_of" => requests::children_of(out, words, tree, ids),
-        _ => reading(out, name, words, tree),
+    let Some(verb) = verbs::request_of(name) else {
+        return reading(out, name, words, tree);
+    };
+    match verb {
+        Request::NeedsCommit => needs_commit(out, words, tree),
+        Request::HitTestPoint => requests::hit_test_point(out, words, tree, ids),
+        Request::ContainingPoint => requests::listing(out, words, tree, ids, containing_point),
+        Request::IntersectRect => requests::listing(out, words, tree, ids, intersect_rect),
+        Request::ChildrenOf => requests::children_of(out, words, tree, ids),
     }
 }
 
 // Readings of a node.
 fn reading(out: &mut Out, name: &[u8], words: &mut Words, tree: &Tree) -> Result<(), Fault> {
-    match name {
-        b"is_alive" => of_node(out, words, tree, tree_readings::is_alive),
-        b"parent_of" => of_node(out, words, tree, tree_links::parent_of),
-        b"next_depth_first" => of_node(out, words, tree, tree_links::next_depth_first),
-        b"prev_depth_first" => of_node(out, words, tree, tree_links::prev_depth_first),
-        b"z_index" => of_node(out, words, tree, tree_readings::z_index),
-        b"flags" => of_node(out, words, tree, tree_readings::flags),
-        b"local_bounds" => of_node(out, words, tree, tree_readings::local_bounds),
-        b"hit_slop" => of_node(out, words, tree, tree_readings::hit_slop),
-        b"local_transform" => of_node(out, words, tree, tree_readings::local_transform),
-        b"local_clip" => of_node(out, words, tree, tree_readings::local_clip),
-        b"world_bounds" => of_node(out, words, tree, worlds::world_bounds),
-        b"world_hit_bounds" => of_node(out, words, tree, worlds::world_hit_bounds),
-        b"world_transform" => of_node(out, words, tree, worlds::world_transform),
-        _ => Err(Fault::Malformed),
+    match verbs::reading_of(name).ok_or(Fault::Malformed)? {
+        Reading::IsAlive => of_node(out, words, tree, tree_readings::is_alive),
+        Reading::ParentOf => of_node(out, words, tree, tree_links::parent_of),
+        Reading::NextDepthFirst => of_node(out, words, tree, tree_links::next_depth_first),
+        Reading::PrevDepthFirst => of_node(out, words, tree, tree_links::prev_depth_first),
+        Reading::ZIndex => of_node(out, words, tree, tree_readings::z_index),
+        Reading::Flags => of_node(out, words, tree, tree_readings::flags),
+        Reading::LocalBounds => of_node(out, words, tree, tree_readings::local_bounds),
+        Reading::HitSlop => of_node(out, words, tree, tree_readings::hit_slop),
+        Reading::LocalTransform => of_node(out, words, tree, tree_readings::local_transform),
+        Reading::LocalClip => of_node(out, words, tree, tree_readings::local_clip),
+        Reading::WorldBounds => of_node(out, words, tree, worlds::world_bounds),
+        Reading::WorldHitBounds => of_node(out, words, tree, worlds::world_hit_bounds),
+        Reading::WorldTransform => of_node(out, words, tree, worlds::world_transform),
     }
 }
 

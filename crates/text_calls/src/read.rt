@@ -5,6 +5,7 @@ use geometry::point::Point;
 use geometry::rect::Rect;
 use geometry_clips::clip::Clip;
 use index_types::NodeId;
+use text_lines::spelling::{named, place};
 use text_lines::words::Words;
 use text_lines::{calls, words};
 use tree_state::Refusal;
@@ -66,10 +67,11 @@ impl FromWords for NodeId {
 // A parent, where `-` is none.
 impl FromWords for Option<NodeId> {
     fn from_words(words: &mut Words) -> Result<Option<NodeId>, Fault> {
-        match words.next().ok_or(Fault::Malformed)? {
-            b"-" => Ok(None),
-            word => Ok(Some(id(word)?)),
+        let word = words.next().ok_or(Fault::Malformed)?;
+        if place(b"-", word).is_some() {
+            return Ok(None);
         }
+        Ok(Some(id(word)?))
     }
 }
 
@@ -105,16 +107,33 @@ impl FromWords for Affine {
     }
 }
 
+// The kinds of a clip.
+#[derive(Clone, Copy)]
+enum Kind {
+    None,
+    Square,
+    Rounded,
+}
+
+fn kind_of(name: &[u8]) -> Option<Kind> {
+    named(
+        b"none square rounded",
+        &[Kind::None, Kind::Square, Kind::Rounded],
+        name,
+    )
+}
+
 // `none`, `square` with its edges, or `rounded` with its edges and radii.
 impl FromWords for Clip {
     fn from_words(words: &mut Words) -> Result<Clip, Fault> {
-        match words.next().ok_or(Fault::Malformed)? {
-            b"none" => Ok(Clip::None),
-            b"square" => {
+        let word = words.next().ok_or(Fault::Malformed)?;
+        match kind_of(word).ok_or(Fault::Malformed)? {
+            Kind::None => Ok(Clip::None),
+            Kind::Square => {
                 let [x0, y0, x1, y1] = four(words)?;
                 Ok(Clip::Square { x0, y0, x1, y1 })
             }
-            b"rounded" => {
+            Kind::Rounded => {
                 let [x0, y0, x1, y1] = four(words)?;
                 let [top_left, top_right, bottom_right, bottom_left] = four(words)?;
                 Ok(Clip::Rounded {
@@ -128,7 +147,6 @@ impl FromWords for Clip {
                     bottom_left,
                 })
             }
-            _ => Err(Fault::Malformed),
         }
     }
 }

@@ -2,13 +2,14 @@
 ghost use Rattle.std.specs.Prelude.{◌≡◌, ◌*◌, ◌-◌, ◌++◌, length, min, take};
 ghost use Rattle.arrayvec.specs.ArrayVec.{array_vec_len};
 
+use crate::spelling;
 use arrayvec::ArrayVec;
 use std::io::Write;
 use std::rt::Stdout;
 use std::{fmt, io};
 
 // How much is read or written at once.
-pub const BLOCK: usize = 32_768;
+pub const BLOCK: usize = 24_576;
 
 // Where answers gather before they are written, without a heap. A write that fails is passed over, and what had gathered is left out.
 #[derive(Drop)]
@@ -64,8 +65,10 @@ impl fmt::Display for Number {
         } else if x == 0.0 {
             write!(f, "0")
         } else {
-            let bits = x.to_bits();
-            write!(f, "{bits:016x}")
+            for digit in spelling::digits(x.to_bits()) {
+                f.write_char(char::from(digit))?;
+            }
+            Ok(())
         }
     }
 }

@@ -1,5 +1,5 @@
-// What a word of a line says: which name it is, and the f64 whose bits it spells.
-ghost use Rattle.std.specs.Prelude.{◌≡◌, min, length, from_bits};
+// What a word of a line says: which name it is, and the f64 whose bits it spells; and the digits that spell bits.
+ghost use Rattle.std.specs.Prelude.{◌≡◌, Some, min, length, from_bits};
 ghost use Rattle.std.specs.Float.{binary64};
 ghost use Rattle.std.specs.Float.Ieee.{nan_bits};
 ghost use Rattle.io.specs.Counts.{IsPrefixLen};
@@ -20,6 +20,13 @@ pub fn place(names: &[u8], name: &[u8]) -> Option<usize>
     let (last, front) = names.split_last()?;
     let names = if *last == b' ' { front } else { names };
     names.split(|b| *b == b' ').position(|part| name == part)
+}
+
+// The kind that has a name: kinds stand in the order of their names.
+pub fn named<K: Copy>(names: &[u8], kinds: &[K], name: &[u8]) -> Option<K>
+    ensures { result ≡ spec.named kinds.now names.now name.now }
+{
+    kinds.get(place(names, name)?).copied()
 }
 
 // A hexadecimal digit's value, lowercase.
@@ -46,6 +53,15 @@ pub fn pattern(word: &[u8]) -> Option<u64>
         bits = bits * 16 + d;
     }
     Some(bits)
+}
+
+// The 16 digits of bits: those whose pattern gives the bits back.
+pub fn digits(bits: u64) -> [u8; 16]
+    ensures { spec.pattern_of result ≡ Some bits }
+{
+    let mut digits = [0; 16];
+    io::hex(bits, 16, &mut digits);
+    digits
 }
 
 // The pattern is a NaN's: without its sign it is above an infinity's.

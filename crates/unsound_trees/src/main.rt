@@ -14,6 +14,7 @@ use std::io::Write;
 use text_calls::State;
 use text_lines::input;
 use text_lines::print::Out;
+use text_lines::spelling::named;
 use text_lines::words::Words;
 use tree_state::Tree;
 use tree_types::LocalNode;
@@ -83,13 +84,29 @@ fn call_line(out: &mut Out, line: &[u8], state: &mut State) -> io::Result<()> {
     Ok(())
 }
 
+// The lines that are no call.
+#[derive(Clone, Copy)]
+enum Line {
+    Set,
+    Chain,
+    Every,
+}
+
+fn line_of(name: &[u8]) -> Option<Line> {
+    named(
+        b"set chain every",
+        &[Line::Set, Line::Chain, Line::Every],
+        name,
+    )
+}
+
 fn answer_line(out: &mut Out, line: &[u8], state: &mut State) -> io::Result<()> {
     let mut words = Words::new(line);
-    match words.next().unwrap_or(b"") {
-        b"set" => quiet(out, set::change(&mut words, &mut state.tree)),
-        b"chain" => quiet(out, chain_line(&mut words, &mut state.tree)),
-        b"every" => every_line(out, line, &state.tree),
-        _ => call_line(out, line, state),
+    match line_of(words.next().unwrap_or(b"")) {
+        Some(Line::Set) => quiet(out, set::change(&mut words, &mut state.tree)),
+        Some(Line::Chain) => quiet(out, chain_line(&mut words, &mut state.tree)),
+        Some(Line::Every) => every_line(out, line, &state.tree),
+        None => call_line(out, line, state),
     }
 }
 

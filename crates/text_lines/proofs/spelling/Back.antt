@@ -1,5 +1,5 @@
 -- The 16 digits that `io::hex` writes of a number are read back as that number. Assumes nothing.
-use Rattle.std.proofs.Common.{◌≡◌, ℕ, zero, suc, ◌+◌, ◌-◌, ◌/◌, ◌%◌, ◌^◌, ◌<◌, ◌≤◌, Bool, true, false, cond, ltb, List, [], ◌∷◌, ◌++◌, length, sym, refl, ◌∙◌, append_assoc, append-nil, pow-suc, div-add-mod', arith, length-append, ltb-false, ltb-true, lt-ltb, eq-eqb, le-leb, Some}
+use Rattle.std.proofs.Common.{◌≡◌, ℕ, zero, suc, ◌+◌, ◌-◌, ◌/◌, ◌%◌, ◌^◌, ◌<◌, ◌≤◌, Bool, true, false, cond, ltb, List, [], ◌∷◌, ◌++◌, length, take, take_all, sym, refl, ◌∙◌, append_assoc, append-nil, pow-suc, div-add-mod', arith, length-append, ltb-false, ltb-true, lt-ltb, eq-eqb, le-leb, Some}
 use borrow.Author.Tests.{lt-leb}
 use Rattle.io.specs.Digits.{hex_digit_ascii, last_digits}
 use Rattle.text_lines.specs.spelling.Words.{digit_value, spelt, pattern_of}
@@ -42,3 +42,9 @@ any_width k w e h =
 
 pub pattern_back : (w : ℕ) → w < 18446744073709551616 → pattern_of (last_digits 16 16 w) ≡ Some w
 pattern_back w h = any_width 16 w refl h
+
+-- where `io::hex` has left k digits in front of room for 16
+pub left_back : (w k : ℕ) (s : List ℕ) → w < 18446744073709551616 → 16 ≤ k → k ≤ length s → length s ≡ 16 → take k s ≡ last_digits 16 k w → pattern_of s ≡ Some w
+left_back w k s h l m e d =
+    let t : take k s ≡ s = take_all k s (omega arith) in
+    rw (sym t ∙ d) (any_width k w (omega arith) (let p : k ≡ 16 = omega arith in rw p h))

@@ -1,5 +1,6 @@
 -- Words of a line: names parted by spaces, and the 64 bits that 16 hexadecimal digits spell. A byte is its ASCII code.
-use Rattle.std.specs.Prelude.{ℕ, ◌+◌, ◌-◌, ◌*◌, cond, ◌&&◌, List, [], ◌∷◌, length, ◌==◌, nat_le, nat_lt, Option, Some, None}
+use Rattle.std.specs.Prelude.{ℕ, ◌+◌, ◌-◌, ◌*◌, cond, ◌&&◌, List, [], ◌∷◌, length, slice_get, ◌==◌, nat_le, nat_lt, Option, Some, None}
+use Rattle.std.specs.Option.{option_and_then}
 use Rattle.std.specs.List.{position, onto_first}
 use Rattle.std.specs.Str.{bytes_eq}
 
@@ -11,6 +12,10 @@ parted (b ∷ s) = cond (b == 32) ([] ∷ parted s) (onto_first b (parted s))
 -- the place of a name among those of a text, counted from 0: the first where it stands
 abbrev pub place : List ℕ → List ℕ → Option ℕ
 place w names = position (bytes_eq w) (parted names)
+
+-- the kind that has a name: what stands among the kinds where the name stands among the names
+abbrev pub named : {K : Type 0} → List K → List ℕ → List ℕ → Option K
+named kinds names w = option_and_then (slice_get kinds) (place w names)
 
 -- a hexadecimal digit's value: `0` to `9` are 48 to 57, `a` to `f` are 97 to 102; 16 for every other byte
 abbrev pub digit_value : ℕ → ℕ
