@@ -5,6 +5,7 @@ pub mod arguments; // what an insert is handed
 pub mod places; // the inserts
 
 ghost use Rattle.std.specs.Prelude.{◌≡◌};
+ghost use Rattle.tree_state.specs.Tree.{fresh_tree};
 ghost use Rattle.sheet_format.specs.Sheet.{read_sheet};
 ghost use Rattle.sheet_format.specs.Told.{sheet_of};
 ghost use Rattle.sheet_calls.specs.Good.{Good};
@@ -23,16 +24,15 @@ pub struct SheetTree {
     pub taps: Lines<TapLine, MOST_TAPS>,
 }
 
-// The tree of a good sheet.
-fn build(sheet: &Parsed) -> Tree
-    requires { Good (sheet_of sheet.now) }
-    ensures { result ≡ tree_of (sheet_of sheet.now) }
+// A fresh tree becomes that of a good sheet. It is lent, not returned: a copy more of it would stand on the stack.
+fn build(tree: &mut Tree, sheet: &Parsed)
+    requires fresh { tree.old ≡ fresh_tree }
+    requires good { Good (sheet_of sheet.now) }
+    ensures { tree.new ≡ tree_of (sheet_of sheet.now) }
 {
-    let mut tree = tree_state::fresh();
-    places::insert_all(&mut tree, sheet);
+    places::insert_all(tree, sheet);
     let mut room = [0.0; 2048];
-    work::commit_sound(&mut tree, &mut room);
-    tree
+    work::commit_sound(tree, &mut room);
 }
 
 // The tree that some bytes stand for, with their taps; or why they are refused.
@@ -40,9 +40,10 @@ pub fn read_tree(bytes: &[u8]) -> Result<SheetTree, Refused>
     ensures { spec.told_tree result ≡ spec.tree_on (read_sheet bytes.now) }
 {
     let sheet = sheet_reader::read_sheet(bytes)?;
-    let tree = build(&sheet);
-    Ok(SheetTree {
-        tree,
+    let mut built = SheetTree {
+        tree: tree_state::fresh(),
         taps: sheet.taps,
-    })
+    };
+    build(&mut built.tree, &sheet);
+    Ok(built)
 }

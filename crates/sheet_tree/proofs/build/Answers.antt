@@ -15,4 +15,4 @@ pub returns : goal.returns
 returns c =
     let s = c.args.sheet.now in
     let e = rw (c.insert_all.ensures, ← length-map (items s.places) place_numbers) at c.commit_sound.ensures.tree in
-    e ∙ committed (sheet_of s) c.requires
+    e ∙ committed (sheet_of s) c.requires.good
