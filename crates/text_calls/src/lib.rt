@@ -56,6 +56,7 @@ fn number(refusal: Refusal) -> u32 {
     }
 }
 
+// Calls that change the tree or the room; another name is a request.
 fn call(out: &mut Out, name: &[u8], words: &mut Words, state: &mut State) -> Result<(), Fault> {
     let Some(verb) = verbs::change_of(name) else {
         return request(out, name, words, &state.tree, state.ids);

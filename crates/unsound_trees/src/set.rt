@@ -291,7 +291,7 @@ fn truths(tree: &mut Tree, name: &[u8], place: u32, truth: bool) -> Option<()> {
     Some(())
 }
 
-// The tables of f64: of local records,
+// The tables of f64 that local records hold.
 #[derive(Clone, Copy)]
 enum LocalTable {
     LocalsBounds,
@@ -339,7 +339,7 @@ fn local_floats(tree: &mut Tree, name: &[u8], place: u32, f: f64) -> Option<()> 
     Some(())
 }
 
-// of world records,
+// The tables of f64 that world records hold.
 #[derive(Clone, Copy)]
 enum WorldTable {
     WorldsTransform,
@@ -391,7 +391,7 @@ fn world_floats(tree: &mut Tree, name: &[u8], place: u32, f: f64) -> Option<()> 
     Some(())
 }
 
-// and of rectangles and boxes.
+// The other tables of f64: rectangles and boxes.
 #[derive(Clone, Copy)]
 enum BoxTable {
     PendingRects,
